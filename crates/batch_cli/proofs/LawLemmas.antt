@@ -8,25 +8,25 @@ use Rattle.std.specs.Prelude.{IfSome, IsSome}
 use Rattle.std.proofs.KnownBytes.{Appends-kept, Keeps-trans}
 use Rattle.clap.specs.Words.{Text, Row, Kinds, first_of}
 use Rattle.memory.specs.declared.OutOfMemory.{OutOfMemory}
-use Rattle.board.specs.Grids.{Grid}
-use Rattle.board.specs.CostRules.{CostRule}
-use Rattle.board.specs.Positions.{Position}
+use Rattle.board.specs.Shapes.{ShapeModel}
+use Rattle.board.specs.Weights.{WeightsModel}
+use Rattle.board.specs.Boards.{BoardModel}
 use Rattle.board.specs.declared.moves.Move.{Move}
 use Rattle.board.specs.Plans.{Leads, IsLeast}
-use Rattle.pattern_index.specs.Splits.{Split}
+use Rattle.pattern_index.specs.Partitions.{PartitionModel}
 use Rattle.table_sets.specs.Built.{AreTrueTables, AreBuilt}
 use Rattle.byte_streams.specs.Streams.{SinkState, Change, SourceState, from_to}
 use Rattle.byte_streams.specs.Sink.{PutsNone, Flushes, Puts, Writes}
 use Rattle.byte_streams.specs.declared.sink.WriteFailed.{WriteFailed}
 use Rattle.option_texts.specs.Defaults.{default_groups}
-use Rattle.certificate.specs.Certificates.{Statement}
+use Rattle.certificate.specs.Certificates.{CertificateModel}
 use Rattle.certificate.specs.declared.faults.ReadFault.{ReadFault}
 use Rattle.certificate.specs.declared.faults.ReadFault.TheVariants.{Format, Failed, NoMemory as NoMemoryToRead}
 use Rattle.certificate.specs.Faults.{format_code}
-use Rattle.certificate.specs.Sources.{Tells}
+use Rattle.certificate.specs.Sources.{TellsOfInput}
 use Rattle.certificate.proofs.LawLemmas.{spelled_read}
 use Rattle.certificate_check.specs.Refusals.{refusal_code}
-use Rattle.batch_runs.specs.Setups.{SetupState}
+use Rattle.batch_runs.specs.Setups.{SetupModel}
 use Rattle.batch_runs.specs.Batches.{Rules, IsTruthful, AreAll, AreFirst}
 use Rattle.batch_runs.specs.Headline.{WritesTruth, BeginsTruth, IsTrueRun}
 use Rattle.batch_runs.specs.declared.batch.Summary.{Summary}
@@ -37,8 +37,8 @@ use Rattle.certificate_runs.specs.declared.faults.UpgradeFault.{UpgradeFault}
 use Rattle.certificate_runs.specs.Rules.{ProofRules, ProvesTruly}
 use Rattle.certificate_runs.specs.Outputs.{Output}
 use Rattle.certificate_runs.specs.Certifying.{Replies}
-use Rattle.certificate_runs.specs.Checking.{Checks, IsVerdict}
-use Rattle.certificate_runs.specs.Headline.{WritesAnswer, WritesVerdict, IsRefusedBy, WritesUpgrade, IsTrueUpgrade, WritesShow, IsTrueShow}
+use Rattle.certificate_runs.specs.Checking.{Checks, IsVerdictOutput}
+use Rattle.certificate_runs.specs.Headline.{WritesAnswer, WritesVerdict, IsCertificateRefusedBy, WritesUpgrade, IsTrueUpgrade, WritesShow, IsTrueShow}
 use Rattle.certificate_runs.proofs.ShowLemmas.{show_true}
 use Rattle.drawings.specs.declared.drawing.Style.{Style}
 use Rattle.certificate_runs.proofs.HeadlineLemmas.{answer_true, check_true, upgrade_true}
@@ -53,14 +53,14 @@ use Rattle.command_line.specs.declared.requests.Request.TheVariants.{Solve, Cert
 use Rattle.command_line.specs.Requests.{AreCostsSaid, AreGroupsSaid, AreOptions, AsksRun, AsksText, AreDefaults, WordsAsk, WordsFail}
 use Rattle.command_line.specs.declared.faults.NoRequest.{NoRequest}
 use Rattle.command_line.specs.declared.faults.NoRequest.TheVariants.{Usage, Goal, Costs, Groups, NoListing, Memory}
-use Rattle.batch_cli.specs.Setups.{AreFit, IsFit, AreTablesFor, IsSetupOf, IsDefaultSetup}
+use Rattle.batch_cli.specs.Setups.{AreOptionsFit, IsRequestFit, AreTablesFor, IsSetupOf, IsDefaultSetup}
 use Rattle.batch_cli.specs.declared.faults.BatchFault.{BatchFault}
 use Rattle.batch_cli.specs.declared.endings.Ending.{Ending}
 use Rattle.batch_cli.specs.declared.endings.Ending.TheVariants.{NoTexts, Refused, NoMemory, Ran, Answered, Shown, Faulted}
 use Rattle.batch_cli.specs.declared.commands.Command.{Command}
 use Rattle.batch_cli.specs.declared.commands.Command.TheVariants as command
 use Rattle.batch_cli.specs.Endings.{status_of, HasNotBegun, Tells as ReportsEnding}
-use Rattle.batch_cli.specs.Programs.{ending_of, after_flush, FlushesBehind, IsUnused, Solves, Certifies, Judges, Draws, Rewrites, TakesSteps, Lists, Shows, EndsRun, EndsRequest, EndsBy, Runs}
+use Rattle.batch_cli.specs.Programs.{ending_of, after_flush, FlushesBehind, IsUnused, SolvesLines, CertifiesFirst, Judges, Draws, Rewrites, TakesSteps, ListsClass, ShowsText, EndsRun, EndsRequest, EndsBy, Runs}
 use Rattle.batch_cli.specs.declared.faults.BatchFault.TheVariants.{Write}
 use Rattle.batch_cli.specs.Faults.{of_lines, of_certify, of_check, of_upgrade}
 use Rattle.batch_cli.specs.Headline.{IsTrue, IsTrueOf, IsTrueBy, RunsProgram, JudgesTruly, StatesTruth, DrawsTruly, UpgradesTruly, WritesReplay}
@@ -104,31 +104,31 @@ accepted_inputs source sink input known truth =
     (c, states.1, states.2, λ plan is. (subst (λ (p : Option (List Move)). IfSome p (λ it. Leads c.costs c.start it c.goal c.cost × IsLeast c.costs c.start c.goal c.cost)) is states.3).0)
 
 pub default_setups : DefaultSetupsAreKorfs
-default_setups setup is = (ap (λ (b : Position). b.tiles) is.goal, is.rule, is.groups, is.limit, is.workers)
+default_setups setup is = (ap (λ (b : BoardModel). b.tiles) is.goal, is.rule, is.groups, is.limit, is.workers)
 
 -- ---- What words ask for, and that what the program writes is true.
 
 -- ---- what words ask for is fit, and without words it is the default
 
 -- groups that are said are of the shape that is said
-groups_sides : (grid : Grid) (text : Option Text) (split : Split) → AreGroupsSaid grid text split → split.grid ≡ grid
+groups_sides : (grid : ShapeModel) (text : Option Text) (split : PartitionModel) → AreGroupsSaid grid text split → split.grid ≡ grid
 groups_sides grid None split said = said.0
 groups_sides grid (Some text) split said = said.0
 
 -- so are the costs
-costs_sides : (grid : Grid) (text : Option Text) (rule : CostRule) → AreCostsSaid grid text rule → rule.grid ≡ grid
-costs_sides grid None rule said = ap (λ (r : CostRule). r.grid) said
-costs_sides grid (Some text) rule (inl unit) = ap (λ (r : CostRule). r.grid) unit.1
-costs_sides grid (Some text) rule (inr (inl face)) = ap (λ (r : CostRule). r.grid) face.1
-costs_sides grid (Some text) rule (inr (inr weights)) = ap (λ (r : CostRule). r.grid) weights.listed
+costs_sides : (grid : ShapeModel) (text : Option Text) (rule : WeightsModel) → AreCostsSaid grid text rule → rule.grid ≡ grid
+costs_sides grid None rule said = ap (λ (r : WeightsModel). r.grid) said
+costs_sides grid (Some text) rule (inl unit) = ap (λ (r : WeightsModel). r.grid) unit.1
+costs_sides grid (Some text) rule (inr (inl face)) = ap (λ (r : WeightsModel). r.grid) face.1
+costs_sides grid (Some text) rule (inr (inr weights)) = ap (λ (r : WeightsModel). r.grid) weights.listed
 
-fit_options : (rows : List Row) (o : Options) → AreOptions rows o → AreFit o
+fit_options : (rows : List Row) (o : Options) → AreOptions rows o → AreOptionsFit o
 fit_options rows o options = record { costs = costs_sides o.goal.grid (first_of (codes "cost") rows) o.costs options.costs; sides = groups_sides o.goal.grid (first_of (codes "groups") rows) o.groups options.groups; some = options.workers.some; few = options.workers.few }
 
-fit_defaults : (o : Options) → AreDefaults o → AreFit o
-fit_defaults o defaults = record { costs = ap (λ (r : CostRule). r.grid) defaults.costs ∙ sym (ap (λ (b : Position). b.grid) defaults.goal); sides = defaults.groups.0; some = omega (arith, defaults.workers); few = omega (arith, defaults.workers) }
+fit_defaults : (o : Options) → AreDefaults o → AreOptionsFit o
+fit_defaults o defaults = record { costs = ap (λ (r : WeightsModel). r.grid) defaults.costs ∙ sym (ap (λ (b : BoardModel). b.grid) defaults.goal); sides = defaults.groups.0; some = omega (arith, defaults.workers); few = omega (arith, defaults.workers) }
 
-fit_text : (faults : Kinds) (request : Request) → AsksText faults request → IsFit request
+fit_text : (faults : Kinds) (request : Request) → AsksText faults request → IsRequestFit request
 fit_text faults (Solve o) never = absurd never
 fit_text faults (Certify o) never = absurd never
 fit_text faults Check never = tt
@@ -139,7 +139,7 @@ fit_text faults (Boards l) never = absurd never
 fit_text faults (Help text) asked = tt
 fit_text faults (Version text) asked = tt
 
-fit_run : (subcommand : Option (Text × List Row)) (request : Request) → AsksRun subcommand request → IsFit request
+fit_run : (subcommand : Option (Text × List Row)) (request : Request) → AsksRun subcommand request → IsRequestFit request
 fit_run None request never = absurd never
 fit_run (Some p) (Solve o) asked = fit_options p.1 o asked.1
 fit_run (Some p) (Certify o) asked = fit_options p.1 o asked.1
@@ -152,7 +152,7 @@ fit_run (Some p) (Help text) asked = tt
 fit_run (Some p) (Version text) asked = tt
 
 -- what words ask for is fit
-pub fit_asked : (words : List Text) (request : Request) → WordsAsk words request → IsFit request
+pub fit_asked : (words : List Text) (request : Request) → WordsAsk words request → IsRequestFit request
 fit_asked [] (Solve o) defaults = fit_defaults o defaults
 fit_asked [] (Certify o) never = absurd never
 fit_asked [] Check never = tt
@@ -166,15 +166,15 @@ fit_asked (word ∷ words) request (program, is, inl text) = fit_text _ request 
 fit_asked (word ∷ words) request (program, is, inr run) = fit_run _ request run.1
 
 -- the setup of the default options is a default setup
-pub default_setup : (o : Options) (setup : SetupState) → AreDefaults o → IsSetupOf o setup → IsDefaultSetup setup
+pub default_setup : (o : Options) (setup : SetupModel) → AreDefaults o → IsSetupOf o setup → IsDefaultSetup setup
 default_setup o setup defaults is =
-    let grid = ap (λ (b : Position). b.grid) defaults.goal in
+    let grid = ap (λ (b : BoardModel). b.grid) defaults.goal in
     let built : AreBuilt o.groups setup.rule setup.goal setup.tables = subst (λ (f : Bool). AreTablesFor f o.groups setup.rule setup.goal setup.tables) defaults.fold is.tables in
     record {
       goal = is.goal ∙ defaults.goal;
       rule = is.rule ∙ defaults.costs;
-      groups = ap (λ (s : Split). map (λ g. g.tiles) s.groups) built.groups ∙ defaults.groups.1 ∙ ap default_groups grid;
-      tables = subst (λ (s : Split). AreTrueTables s.groups setup.rule setup.goal setup.tables.lookups) (sym built.groups) built.each;
+      groups = ap (λ (s : PartitionModel). map (λ g. g.tiles) s.groups) built.groups ∙ defaults.groups.1 ∙ ap default_groups grid;
+      tables = subst (λ (s : PartitionModel). AreTrueTables s.groups setup.rule setup.goal setup.tables.lookups) (sym built.groups) built.each;
       whole = built.whole;
       limit = is.limit ∙ defaults.limit;
       workers = is.workers ∙ defaults.workers;
@@ -250,7 +250,7 @@ BeginsTruth-kept rules source a b c some kept = record {
 WritesTruth-kept : (rules : Rules) (source : Change SourceState) (a b c : SinkState) (status : ℕ) → WritesTruth rules source (from_to a b) status → PutsNone (from_to b c) → WritesTruth rules source (from_to a c) status
 WritesTruth-kept rules source a b c status all kept = record { lines = all.lines; output = all.output; all = all.all; put = Appends-kept a.contents b.contents c.contents all.output all.put kept; truth = all.truth; settled = all.settled }
 
-WritesAnswer-kept : (split : Split) (rules : ProofRules) (source : Change SourceState) (a b c : SinkState) → WritesAnswer split rules source (from_to a b) → PutsNone (from_to b c) → WritesAnswer split rules source (from_to a c)
+WritesAnswer-kept : (split : PartitionModel) (rules : ProofRules) (source : Change SourceState) (a b c : SinkState) → WritesAnswer split rules source (from_to a b) → PutsNone (from_to b c) → WritesAnswer split rules source (from_to a c)
 WritesAnswer-kept split rules source a b c all kept = record { lines = all.lines; output = all.output; first = all.first; put = Appends-kept a.contents b.contents c.contents all.output all.put kept; answer = all.answer }
 
 WritesVerdict-kept : (a b c : SinkState) (input : List ℕ) → WritesVerdict (from_to a b) input → PutsNone (from_to b c) → WritesVerdict (from_to a c) input
@@ -289,14 +289,14 @@ whole rules source sink (Err lines.Read) status told fine some = absurd (omega (
 whole rules source sink (Err lines.Write) status told fine some = absurd (omega (arith, told))
 whole rules source sink (Err (lines.Memory lacking)) status told fine some = absurd (omega (arith, told))
 
-truthful : (setup : SetupState) → IsTruthful (rules_of setup)
+truthful : (setup : SetupModel) → IsTruthful (rules_of setup)
 truthful setup = λ b ending allowed. allowed.0
 
-truthful_certifying : (setup : SetupState) → ProvesTruly (certifying_rules_of setup)
+truthful_certifying : (setup : SetupModel) → ProvesTruly (certifying_rules_of setup)
 truthful_certifying setup b outcome allowed = allowed.0
 
 module _ (source : Change SourceState) (sink : Change SinkState) (ending : Ending) (status : ℕ) (told : status ≡ status_of ending) where
-  solved : (setup : SetupState) → EndsRun (Solves source setup) sink ending → BeginsTruth (rules_of setup) source sink × (status < 2 → WritesTruth (rules_of setup) source sink status)
+  solved : (setup : SetupModel) → EndsRun (SolvesLines source setup) sink ending → BeginsTruth (rules_of setup) source sink × (status < 2 → WritesTruth (rules_of setup) source sink status)
   solved setup ended =
       let rules = rules_of setup in
       let first = from_to sink.before ended.between in
@@ -312,7 +312,7 @@ module _ (source : Change SourceState) (sink : Change SinkState) (ending : Endin
 
 -- ---- a certificate
 
-answered : (split : Split) (rules : ProofRules) → ProvesTruly rules → (source : Change SourceState) (sink : Change SinkState) (result : Result ℕ CertifyFault) (status : ℕ) → status ≡ status_of (ending_of Answered of_certify result) → status < 2 → Replies split rules source sink result → WritesAnswer split rules source sink
+answered : (split : PartitionModel) (rules : ProofRules) → ProvesTruly rules → (source : Change SourceState) (sink : Change SinkState) (result : Result ℕ CertifyFault) (status : ℕ) → status ≡ status_of (ending_of Answered of_certify result) → status < 2 → Replies split rules source sink result → WritesAnswer split rules source sink
 answered split rules truthful source sink (Ok n) status told fine replies = answer_true split rules truthful source sink (Ok n) replies
 answered split rules truthful source sink (Err certify.Read) status told fine replies = absurd (omega (arith, told))
 answered split rules truthful source sink (Err certify.Write) status told fine replies = absurd (omega (arith, told))
@@ -321,7 +321,7 @@ answered split rules truthful source sink (Err (certify.GroupsMemory wanting)) s
 answered split rules truthful source sink (Err certify.CertificateWrite) status told fine replies = absurd (omega (arith, told))
 
 module _ (source : Change SourceState) (sink : Change SinkState) (ending : Ending) (status : ℕ) (told : status ≡ status_of ending) where
-  certified : (setup : SetupState) → EndsRun (Certifies source setup) sink ending → status < 2 → WritesAnswer setup.tables.split (certifying_rules_of setup) source sink
+  certified : (setup : SetupModel) → EndsRun (CertifiesFirst source setup) sink ending → status < 2 → WritesAnswer setup.tables.split (certifying_rules_of setup) source sink
   certified setup ended fine =
       let last = from_to ended.between sink.after in
       let is = status_ran ended.ran last ending status ended.flush told (λ three. omega (arith, fine, three)) ∙ ap status_of ended.run.2 in
@@ -333,14 +333,14 @@ module _ (source : Change SourceState) (sink : Change SinkState) (ending : Endin
 
 -- what a verdict with this status says of the input
 abbrev Judged : ℕ → Change SinkState → List ℕ → Type 0
-Judged status sink input = WritesVerdict sink input × (status ≡ 0 → StatesTruth input) × (status ≡ 5 → (code : List ℕ) × IsRefusedBy input code)
+Judged status sink input = WritesVerdict sink input × (status ≡ 0 → StatesTruth input) × (status ≡ 5 → (code : List ℕ) × IsCertificateRefusedBy input code)
 
 -- where a plan is stated, it leads, and its cost is the least
 stated_plan : (plan : Option (List Move)) (P : List Move → Type 0) (L : Type 0) → IfSome plan P → (IsSome plan → L) → IfSome plan (λ moves. P moves × L)
 stated_plan None P L leads least = tt
 stated_plan (Some moves) P L leads least = (leads, least refl)
 
-verdict_judged : (read : Result Statement ReadFault) (sink : Change SinkState) (input : List ℕ) (output : Output) (status : ℕ) → Tells read input → IsVerdict read output → status ≡ output.status → WritesVerdict sink input → Judged status sink input
+verdict_judged : (read : Result CertificateModel ReadFault) (sink : Change SinkState) (input : List ℕ) (output : Output) (status : ℕ) → TellsOfInput read input → IsVerdictOutput read output → status ≡ output.status → WritesVerdict sink input → Judged status sink input
 verdict_judged (Ok c) sink input output status tells (tables, built, inl accepted) is written = (
   written,
   λ zero. (c, spelled_read input c tells, accepted.below, stated_plan c.plan (λ plan. Leads c.costs c.start plan c.goal c.cost) (IsLeast c.costs c.start c.goal c.cost) accepted.proved.plan accepted.least),
@@ -359,7 +359,7 @@ verdict_judged (Err (Format fault)) sink input output status tells refused is wr
 verdict_judged (Err Failed) sink input output status tells never is written = absurd never
 verdict_judged (Err (NoMemoryToRead refused)) sink input output status tells never is written = absurd never
 
-known : (input : Option (List ℕ)) (read : Result Statement ReadFault) (sink : Change SinkState) (output : Output) (status : ℕ) → IfSome input (Tells read) → IsVerdict read output → status ≡ output.status → IfSome input (WritesVerdict sink) → IfSome input (Judged status sink)
+known : (input : Option (List ℕ)) (read : Result CertificateModel ReadFault) (sink : Change SinkState) (output : Output) (status : ℕ) → IfSome input (TellsOfInput read) → IsVerdictOutput read output → status ≡ output.status → IfSome input (WritesVerdict sink) → IfSome input (Judged status sink)
 known None read sink output status tells verdict is written = tt
 known (Some input) read sink output status tells verdict is written = verdict_judged read sink input output status tells verdict is written
 
@@ -462,12 +462,12 @@ put_text : (text : List ℕ) (sink : Change SinkState) (result : Result (Unit {0
 put_text text sink (Ok done) status told zero writes = writes.0
 put_text text sink (Err failed) status told zero writes = absurd (omega (arith, told, zero))
 
-put_list : (l : Listing) (sink : Change SinkState) (result : Result (Unit {0}) WriteFailed) (status : ℕ) → status ≡ status_of (ending_of (λ done. Shown) (λ failed. Write) result) → status ≡ 0 → ListsBoards (AreChosen l.goal l.choice) sink result → (boards : List Position) × AreChosen l.goal l.choice boards × Puts sink (lines_text 1 boards)
+put_list : (l : Listing) (sink : Change SinkState) (result : Result (Unit {0}) WriteFailed) (status : ℕ) → status ≡ status_of (ending_of (λ done. Shown) (λ failed. Write) result) → status ≡ 0 → ListsBoards (AreChosen l.goal l.choice) sink result → (boards : List BoardModel) × AreChosen l.goal l.choice boards × Puts sink (lines_text 1 boards)
 put_list l sink (Ok done) status told zero lists = (lists.boards, lists.such, lists.written.0)
 put_list l sink (Err failed) status told zero lists = absurd (omega (arith, told, zero))
 
 module _ (source : Change SourceState) (sink : Change SinkState) (ending : Ending) (status : ℕ) (told : status ≡ status_of ending) where
-  replayed : (setup : SetupState) → EndsRun (TakesSteps source setup) sink ending → status < 2 → WritesReplay (setup_jobs setup) source sink status
+  replayed : (setup : SetupModel) → EndsRun (TakesSteps source setup) sink ending → status < 2 → WritesReplay (setup_jobs setup) source sink status
   replayed setup ended fine =
       let last = from_to ended.between sink.after in
       let is = status_ran ended.ran last ending status ended.flush told (λ three. omega (arith, fine, three)) ∙ ap status_of ended.run.2 in
@@ -475,13 +475,13 @@ module _ (source : Change SourceState) (sink : Change SinkState) (ending : Endin
       (stepped (setup_jobs setup) source (from_to sink.before ended.between) ended.run.0 status is fine ended.run.1)
       (behind_none ended.ran last ending ended.flush)
 
-  shown : (text : List ℕ) → EndsRun (Shows text) sink ending → status ≡ 0 → Puts sink text
+  shown : (text : List ℕ) → EndsRun (ShowsText text) sink ending → status ≡ 0 → Puts sink text
   shown text ended zero =
       let last = from_to ended.between sink.after in
       let is = status_ran ended.ran last ending status ended.flush told (λ three. omega (arith, zero, three)) ∙ ap status_of ended.run.2 in
       Appends-kept sink.before.contents ended.between.contents sink.after.contents text (put_text text (from_to sink.before ended.between) ended.run.0 status is zero ended.run.1) (behind_none ended.ran last ending ended.flush)
 
-  listed : (l : Listing) → EndsRun (Lists l) sink ending → status ≡ 0 → (boards : List Position) × AreChosen l.goal l.choice boards × Puts sink (lines_text 1 boards)
+  listed : (l : Listing) → EndsRun (ListsClass l) sink ending → status ≡ 0 → (boards : List BoardModel) × AreChosen l.goal l.choice boards × Puts sink (lines_text 1 boards)
   listed l ended zero =
       let last = from_to ended.between sink.after in
       let is = status_ran ended.ran last ending status ended.flush told (λ three. omega (arith, zero, three)) ∙ ap status_of ended.run.2 in

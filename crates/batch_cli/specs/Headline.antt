@@ -4,17 +4,17 @@ use Rattle.byte_streams.specs.Streams.{SourceState, SinkState, Change}
 use Rattle.byte_streams.specs.Sink.{Puts}
 use Rattle.memory.specs.declared.OutOfMemory.{OutOfMemory}
 use Rattle.clap.specs.Words.{Text}
-use Rattle.board.specs.Positions.{Position}
+use Rattle.board.specs.Boards.{BoardModel}
 use Rattle.board_lists.specs.Lines.{lines_text}
 use Rattle.board_lists.specs.Lists.{AreChosen}
 use Rattle.board.specs.Plans.{Leads, NothingBelow, IsLeast}
-use Rattle.certificate.specs.Certificates.{Statement}
+use Rattle.certificate.specs.Certificates.{CertificateModel}
 use Rattle.certificate.specs.Readings.{certificate}
 use Rattle.batch_runs.specs.Headline.{WritesTruth, BeginsTruth}
-use Rattle.batch_runs.specs.Setups.{SetupState}
-use Rattle.certificate_runs.specs.Headline.{WritesAnswer, WritesVerdict, IsRefusedBy, WritesUpgrade, WritesShow}
+use Rattle.batch_runs.specs.Setups.{SetupModel}
+use Rattle.certificate_runs.specs.Headline.{WritesAnswer, WritesVerdict, IsCertificateRefusedBy, WritesUpgrade, WritesShow}
 use Rattle.drawings.specs.declared.drawing.Style.{Style}
-use Rattle.replay_runs.specs.Replays.{Jobs, PassesAll, WritesRefusal, WritesPlay}
+use Rattle.replay_runs.specs.Replays.{Jobs, WritesNothing, WritesRefusal, WritesPlay}
 use Rattle.replay_runs.specs.Openings.{setup_jobs}
 use Rattle.setup_runs.specs.Solving.{rules_of, certifying_rules_of}
 use Rattle.command_line.specs.declared.faults.NoRequest.{NoRequest}
@@ -30,12 +30,12 @@ use Rattle.batch_cli.specs.Programs.{IsUnused, EndsBy}
 -- For some default setup a beginning was written of an output that tells the truth of the lines that were read, and with the status 0 or 1 all of one that tells it of all lines; with 0 none of them is bounded or refused.
 abbrev pub IsTrue : ℕ → Change SourceState → Change SinkState → Type 0
 IsTrue status source sink =
-    (setup : SetupState) × IsDefaultSetup setup × BeginsTruth (rules_of setup) source sink × (status < 2 → WritesTruth (rules_of setup) source sink status)
+    (setup : SetupModel) × IsDefaultSetup setup × BeginsTruth (rules_of setup) source sink × (status < 2 → WritesTruth (rules_of setup) source sink status)
 
 -- the input is a certificate, no plan from its start to its goal costs less than it states, and where it states a plan, that leads there at its cost, which is the least
 abbrev pub StatesTruth : List ℕ → Type 0
 StatesTruth input =
-    (c : Statement)
+    (c : CertificateModel)
     × (certificate input ≡ Ok (c, []))
     × NothingBelow c.costs c.start c.goal c.cost
     × IfSome c.plan (λ plan. Leads c.costs c.start plan c.goal c.cost × IsLeast c.costs c.start c.goal c.cost)
@@ -44,7 +44,7 @@ StatesTruth input =
 pub record JudgesTruly (status : ℕ) (sink : Change SinkState) (input : List ℕ) : Type 0 where
   pub verdict : (status ≡ 0) ⊎ (status ≡ 5) → WritesVerdict sink input
   pub accepted : status ≡ 0 → StatesTruth input
-  pub refused : status ≡ 5 → (code : List ℕ) × IsRefusedBy input code
+  pub refused : status ≡ 5 → (code : List ℕ) × IsCertificateRefusedBy input code
 
 -- with the status 0 the input is a certificate, and its spelling in version 2 was written; with 5 it is none, and nothing was written
 abbrev pub UpgradesTruly : ℕ → Change SinkState → List ℕ → Type 0
@@ -56,18 +56,18 @@ DrawsTruly style status sink input = (status ≡ 0) ⊎ (status ≡ 5) → Write
 
 -- the answers to a board line and to the lines of steps behind it were written, as the status says
 abbrev pub WritesReplay : Jobs → Change SourceState → Change SinkState → ℕ → Type 0
-WritesReplay jobs source sink status = PassesAll source sink status ⊎ WritesRefusal jobs source sink status ⊎ WritesPlay jobs source sink status
+WritesReplay jobs source sink status = WritesNothing source sink status ⊎ WritesRefusal jobs source sink status ⊎ WritesPlay jobs source sink status
 
 -- What is written for what words ask for is true. Of boards it is so as of those without words, for a setup that the options say; of a certificate, a verdict, a drawing, an upgrade, a replay, a list of boards and a text where the run ends well.
 abbrev pub IsTrueOf : Request → ℕ → Change SourceState → Change SinkState → Type 0
 IsTrueOf (Solve o) status source sink =
-    (setup : SetupState) × IsSetupOf o setup × BeginsTruth (rules_of setup) source sink × (status < 2 → WritesTruth (rules_of setup) source sink status)
-IsTrueOf (Certify o) status source sink = (setup : SetupState) × IsSetupOf o setup × (status < 2 → WritesAnswer setup.tables.split (certifying_rules_of setup) source sink)
+    (setup : SetupModel) × IsSetupOf o setup × BeginsTruth (rules_of setup) source sink × (status < 2 → WritesTruth (rules_of setup) source sink status)
+IsTrueOf (Certify o) status source sink = (setup : SetupModel) × IsSetupOf o setup × (status < 2 → WritesAnswer setup.tables.split (certifying_rules_of setup) source sink)
 IsTrueOf Check status source sink = IfSome source.before.left (JudgesTruly status sink)
 IsTrueOf (Draw style) status source sink = IfSome source.before.left (DrawsTruly style status sink)
 IsTrueOf Upgrade status source sink = IfSome source.before.left (UpgradesTruly status sink)
-IsTrueOf (Replay o) status source sink = (setup : SetupState) × IsSetupOf o setup × (status < 2 → WritesReplay (setup_jobs setup) source sink status)
-IsTrueOf (Boards l) status source sink = status ≡ 0 → (boards : List Position) × AreChosen l.goal l.choice boards × Puts sink (lines_text 1 boards)
+IsTrueOf (Replay o) status source sink = (setup : SetupModel) × IsSetupOf o setup × (status < 2 → WritesReplay (setup_jobs setup) source sink status)
+IsTrueOf (Boards l) status source sink = status ≡ 0 → (boards : List BoardModel) × AreChosen l.goal l.choice boards × Puts sink (lines_text 1 boards)
 IsTrueOf (Help text) status source sink = status ≡ 0 → Puts sink (string_bytes text)
 IsTrueOf (Version text) status source sink = status ≡ 0 → Puts sink (string_bytes text)
 

@@ -3,14 +3,14 @@ use Rattle.std.specs.Prelude.{ℕ, Bool, ◌≡◌, ◌≤◌, ◌<◌, false, L
 use Rattle.byte_streams.specs.Streams.{SourceState, SinkState, Change}
 use Rattle.board.specs.declared.moves.Move.{Move}
 use Rattle.board.specs.Plans.{Leads}
-use Rattle.board.specs.CostRules.{unit_rule}
-use Rattle.certificate.specs.Certificates.{Statement}
+use Rattle.board.specs.Weights.{unit_rule}
+use Rattle.certificate.specs.Certificates.{CertificateModel}
 use Rattle.certificate.specs.Readings.{certificate}
 use Rattle.certificate_runs.specs.Headline.{AnswersFirst}
 use Rattle.command_line.specs.declared.requests.Options.{Options}
 use Rattle.command_line.specs.declared.requests.Request.TheVariants.{Solve, Certify, Check}
 use Rattle.batch_lines.specs.Lines.{lines_of}
-use Rattle.batch_runs.specs.Meanings.{IsSettled}
+use Rattle.batch_runs.specs.Meanings.{AreAllDecided}
 use Rattle.batch_runs.specs.Headline.{TellsTheTruth}
 use Rattle.batch_cli.specs.declared.endings.Ending.{Ending}
 use Rattle.batch_cli.specs.Endings.{Tells, message_of}
@@ -18,7 +18,7 @@ use Rattle.batch_cli.specs.Setups.{IsDefaultSetup, small_grid}
 use Rattle.batch_cli.specs.Headline.{IsTrue, IsTrueOf}
 use Rattle.batch_cli.specs.Programs.{PrintsAsAsked}
 use Rattle.batch_cli.specs.declared.commands.Command.TheVariants as command
-use Rattle.batch_runs.specs.Setups.{SetupState}
+use Rattle.batch_runs.specs.Setups.{SetupModel}
 use Rattle.setup_runs.specs.Solving.{rules_of, certifying_rules_of}
 
 -- to a stream that has not failed since, the message is written whole
@@ -42,7 +42,7 @@ OutputsTellTheTruth =
     → sink.before.contents ≡ Some []
     → status < 2
     → IsTrue status source sink
-    → (setup : SetupState) × IsDefaultSetup setup × (output : List ℕ) × (sink.after.contents ≡ Some output) × TellsTheTruth (rules_of setup) (lines_of input) output × (status ≡ 0 → IsSettled output)
+    → (setup : SetupModel) × IsDefaultSetup setup × (output : List ℕ) × (sink.after.contents ≡ Some output) × TellsTheTruth (rules_of setup) (lines_of input) output × (status ≡ 0 → AreAllDecided output)
 
 -- so it is of what `solve` leaves for options, with a setup of their goal, costs, limit and workers
 abbrev pub SolvedOutputsTellTheTruth : Type 0
@@ -52,8 +52,8 @@ SolvedOutputsTellTheTruth =
     → sink.before.contents ≡ Some []
     → status < 2
     → IsTrueOf (Solve o) status source sink
-    → (setup : SetupState) × (setup.goal ≡ o.goal) × (setup.rule ≡ o.costs) × (setup.limit ≡ o.limit) × (setup.workers ≡ o.workers)
-    × (output : List ℕ) × (sink.after.contents ≡ Some output) × TellsTheTruth (rules_of setup) (lines_of input) output × (status ≡ 0 → IsSettled output)
+    → (setup : SetupModel) × (setup.goal ≡ o.goal) × (setup.rule ≡ o.costs) × (setup.limit ≡ o.limit) × (setup.workers ≡ o.workers)
+    × (output : List ℕ) × (sink.after.contents ≡ Some output) × TellsTheTruth (rules_of setup) (lines_of input) output × (status ≡ 0 → AreAllDecided output)
 
 -- and what it leaves where a certificate is asked for answers the first board of the input, with a setup of their goal and costs
 abbrev pub CertificatesAnswerTheFirst : Type 0
@@ -63,7 +63,7 @@ CertificatesAnswerTheFirst =
     → sink.before.contents ≡ Some []
     → status < 2
     → IsTrueOf (Certify o) status source sink
-    → (setup : SetupState) × (setup.goal ≡ o.goal) × (setup.rule ≡ o.costs)
+    → (setup : SetupModel) × (setup.goal ≡ o.goal) × (setup.rule ≡ o.costs)
     × (lines more : List (List ℕ)) × (output : List ℕ) × (lines_of input ≡ lines ++ more) × (sink.after.contents ≡ Some output)
     × AnswersFirst setup.tables.split (certifying_rules_of setup) lines output
 
@@ -73,14 +73,14 @@ AcceptedInputsAreTrue =
     (source : Change SourceState) (sink : Change SinkState) (input : List ℕ)
     → source.before.left ≡ Some input
     → IsTrueOf Check 0 source sink
-    → (c : Statement) × (certificate input ≡ Ok (c, []))
+    → (c : CertificateModel) × (certificate input ≡ Ok (c, []))
     × ((plan : List Move) (cost : ℕ) → Leads c.costs c.start plan c.goal cost → c.cost ≤ cost)
     × ((plan : List Move) → c.plan ≡ Some plan → Leads c.costs c.start plan c.goal c.cost)
 
 -- a default setup has the goal with the blank first and the tiles in order, unit cost, the tables of two groups of tiles, no limit, and one worker
 abbrev pub DefaultSetupsAreKorfs : Type 0
 DefaultSetupsAreKorfs =
-    (setup : SetupState)
+    (setup : SetupModel)
     → IsDefaultSetup setup
     → (setup.goal.tiles ≡ 0 ∷ 1 ∷ 2 ∷ 3 ∷ 4 ∷ 5 ∷ 6 ∷ 7 ∷ 8 ∷ [])
     × (setup.rule ≡ unit_rule small_grid)
@@ -91,6 +91,6 @@ DefaultSetupsAreKorfs =
 -- a command prints what its options ask for
 abbrev pub OptionsArePrinted : Type 0
 OptionsArePrinted =
-    (o : Options) (setup : SetupState) (progress stats : Bool)
+    (o : Options) (setup : SetupModel) (progress stats : Bool)
     → (PrintsAsAsked (Solve o) (command.Solve setup progress stats) → (progress ≡ o.progress) × (stats ≡ o.stats))
     × (PrintsAsAsked (Certify o) (command.Certify setup progress) → progress ≡ o.progress)

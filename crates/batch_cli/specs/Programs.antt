@@ -10,7 +10,7 @@ use Rattle.command_line.specs.declared.requests.Listing.{Listing}
 use Rattle.batch_runs.specs.declared.batch.Summary.{Summary}
 use Rattle.batch_runs.specs.declared.faults.LinesFault.{LinesFault}
 use Rattle.batch_runs.specs.Batches.{ReportsLines}
-use Rattle.batch_runs.specs.Setups.{SetupState}
+use Rattle.batch_runs.specs.Setups.{SetupModel}
 use Rattle.certificate_runs.specs.declared.faults.CertifyFault.{CertifyFault}
 use Rattle.certificate_runs.specs.declared.faults.CheckFault.{CheckFault}
 use Rattle.certificate_runs.specs.declared.faults.UpgradeFault.{UpgradeFault}
@@ -48,12 +48,12 @@ ending_of well early (Ok answer) = well answer
 ending_of well early (Err fault) = Faulted (early fault)
 
 -- boards of a setup are solved, and reported line by line
-abbrev pub Solves : Change SourceState → SetupState → Change SinkState → Ending → Type 0
-Solves source setup sink ending = (result : Result Summary LinesFault) × ReportsLines (rules_of setup) source sink result × (ending ≡ ending_of Ran of_lines result)
+abbrev pub SolvesLines : Change SourceState → SetupModel → Change SinkState → Ending → Type 0
+SolvesLines source setup sink ending = (result : Result Summary LinesFault) × ReportsLines (rules_of setup) source sink result × (ending ≡ ending_of Ran of_lines result)
 
 -- the first board is solved, and its certificate is written
-abbrev pub Certifies : Change SourceState → SetupState → Change SinkState → Ending → Type 0
-Certifies source setup sink ending = (result : Result ℕ CertifyFault) × Replies setup.tables.split (certifying_rules_of setup) source sink result × (ending ≡ ending_of Answered of_certify result)
+abbrev pub CertifiesFirst : Change SourceState → SetupModel → Change SinkState → Ending → Type 0
+CertifiesFirst source setup sink ending = (result : Result ℕ CertifyFault) × Replies setup.tables.split (certifying_rules_of setup) source sink result × (ending ≡ ending_of Answered of_certify result)
 
 -- a certificate is checked
 abbrev pub Judges : Change SourceState → Change SinkState → Ending → Type 0
@@ -68,16 +68,16 @@ abbrev pub Rewrites : Change SourceState → Change SinkState → Ending → Typ
 Rewrites source sink ending = (result : Result ℕ UpgradeFault) × Upgrades source sink result × (ending ≡ ending_of Answered of_upgrade result)
 
 -- steps are taken one by one
-abbrev pub TakesSteps : Change SourceState → SetupState → Change SinkState → Ending → Type 0
+abbrev pub TakesSteps : Change SourceState → SetupModel → Change SinkState → Ending → Type 0
 TakesSteps source setup sink ending = (result : Result ℕ LinesFault) × Replays (setup_jobs setup) source sink result × (ending ≡ ending_of Answered of_lines result)
 
 -- boards are listed
-abbrev pub Lists : Listing → Change SinkState → Ending → Type 0
-Lists l sink ending = (result : Result (Unit {0}) WriteFailed) × ListsBoards (AreChosen l.goal l.choice) sink result × (ending ≡ ending_of (λ done. Shown) (λ failed. Write) result)
+abbrev pub ListsClass : Listing → Change SinkState → Ending → Type 0
+ListsClass l sink ending = (result : Result (Unit {0}) WriteFailed) × ListsBoards (AreChosen l.goal l.choice) sink result × (ending ≡ ending_of (λ done. Shown) (λ failed. Write) result)
 
 -- a text is written
-abbrev pub Shows : List ℕ → Change SinkState → Ending → Type 0
-Shows text sink ending = (result : Result (Unit {0}) WriteFailed) × Writes sink text result × (ending ≡ ending_of (λ done. Shown) (λ failed. Write) result)
+abbrev pub ShowsText : List ℕ → Change SinkState → Ending → Type 0
+ShowsText text sink ending = (result : Result (Unit {0}) WriteFailed) × Writes sink text result × (ending ≡ ending_of (λ done. Shown) (λ failed. Write) result)
 
 -- ---- and the flush behind them
 
@@ -103,22 +103,22 @@ abbrev pub LacksTables : Change SourceState → Change SinkState → Ending → 
 LacksTables source sink ending = OutOfMemory × IsUnused source sink × (ending ≡ NoMemory)
 
 -- such a run of a setup that the options say, or being out of memory for its tables
-abbrev pub EndsSetup : Options → (SetupState → Change SinkState → Ending → Type 0) → Change SourceState → Change SinkState → Ending → Type 0
-EndsSetup o runs source sink ending = ((setup : SetupState) × IsSetupOf o setup × EndsRun (runs setup) sink ending) ⊎ LacksTables source sink ending
+abbrev pub EndsSetup : Options → (SetupModel → Change SinkState → Ending → Type 0) → Change SourceState → Change SinkState → Ending → Type 0
+EndsSetup o runs source sink ending = ((setup : SetupModel) × IsSetupOf o setup × EndsRun (runs setup) sink ending) ⊎ LacksTables source sink ending
 
 -- ---- words
 
 -- how the program ends for what words ask for
 abbrev pub EndsRequest : Request → Change SourceState → Change SinkState → Ending → Type 0
-EndsRequest (Solve o) source sink ending = EndsSetup o (Solves source) source sink ending
-EndsRequest (Certify o) source sink ending = EndsSetup o (Certifies source) source sink ending
+EndsRequest (Solve o) source sink ending = EndsSetup o (SolvesLines source) source sink ending
+EndsRequest (Certify o) source sink ending = EndsSetup o (CertifiesFirst source) source sink ending
 EndsRequest Check source sink ending = EndsRun (Judges source) sink ending
 EndsRequest (Draw style) source sink ending = EndsRun (Draws source style) sink ending
 EndsRequest Upgrade source sink ending = EndsRun (Rewrites source) sink ending
 EndsRequest (Replay o) source sink ending = EndsSetup o (TakesSteps source) source sink ending
-EndsRequest (Boards l) source sink ending = (source.after ≡ source.before) × EndsRun (Lists l) sink ending
-EndsRequest (Help text) source sink ending = (source.after ≡ source.before) × EndsRun (Shows (string_bytes text)) sink ending
-EndsRequest (Version text) source sink ending = (source.after ≡ source.before) × EndsRun (Shows (string_bytes text)) sink ending
+EndsRequest (Boards l) source sink ending = (source.after ≡ source.before) × EndsRun (ListsClass l) sink ending
+EndsRequest (Help text) source sink ending = (source.after ≡ source.before) × EndsRun (ShowsText (string_bytes text)) sink ending
+EndsRequest (Version text) source sink ending = (source.after ≡ source.before) × EndsRun (ShowsText (string_bytes text)) sink ending
 
 -- How the program ends: as what the words ask for ends; or the words ask for nothing, and nothing is read or written.
 abbrev pub EndsBy : List Text → Change SourceState → Change SinkState → Ending → Type 0
@@ -135,22 +135,22 @@ CanRun _ = ⊤
 
 -- a run of a command, without the flush that follows it
 abbrev pub Runs : Command → Change SourceState → Change SinkState → Ending → Type 0
-Runs (command.Solve setup progress stats) source sink ending = Solves source setup sink ending
-Runs (command.Certify setup progress) source sink ending = Certifies source setup sink ending
+Runs (command.Solve setup progress stats) source sink ending = SolvesLines source setup sink ending
+Runs (command.Certify setup progress) source sink ending = CertifiesFirst source setup sink ending
 Runs command.Check source sink ending = Judges source sink ending
 Runs (command.Draw style) source sink ending = Draws source style sink ending
 Runs command.Upgrade source sink ending = Rewrites source sink ending
 Runs (command.Replay setup) source sink ending = TakesSteps source setup sink ending
-Runs (command.List l) source sink ending = (source.after ≡ source.before) × Lists l sink ending
-Runs (command.Show text) source sink ending = (source.after ≡ source.before) × Shows (string_bytes text) sink ending
+Runs (command.List l) source sink ending = (source.after ≡ source.before) × ListsClass l sink ending
+Runs (command.Show text) source sink ending = (source.after ≡ source.before) × ShowsText (string_bytes text) sink ending
 
 -- a run of the command, and the flush that follows it, end what is requested
-abbrev pub Serves : Request → Command → Type 0
-Serves request command = (source : Change SourceState) (sink : Change SinkState) (ending : Ending) → EndsRun (Runs command source) sink ending → EndsRequest request source sink ending
+abbrev pub ServesRequest : Request → Command → Type 0
+ServesRequest request command = (source : Change SourceState) (sink : Change SinkState) (ending : Ending) → EndsRun (Runs command source) sink ending → EndsRequest request source sink ending
 
 -- what is requested ends without memory, where nothing is read or written
-abbrev pub LacksMemory : Request → OutOfMemory → Type 0
-LacksMemory request lacking = (source : Change SourceState) (sink : Change SinkState) → IsUnused source sink → EndsRequest request source sink NoMemory
+abbrev pub EndsWithoutMemory : Request → OutOfMemory → Type 0
+EndsWithoutMemory request lacking = (source : Change SourceState) (sink : Change SinkState) → IsUnused source sink → EndsRequest request source sink NoMemory
 
 -- ---- what is printed beside the output
 

@@ -1,11 +1,11 @@
 -- The setup that options say.
 use Rattle.std.specs.Prelude.{◌≡◌, ◌≤◌, ◌-◌, ◌^◌, Bool, true, false, [], ◌∷◌, map, ⊤}
-use Rattle.board.specs.Grids.{Grid}
-use Rattle.board.specs.Positions.{Position, goal_of}
-use Rattle.board.specs.CostRules.{CostRule, unit_rule}
-use Rattle.pattern_index.specs.Splits.{Split}
-use Rattle.lower_bound.specs.Tables.{Tables, AreWhole}
-use Rattle.batch_runs.specs.Setups.{SetupState}
+use Rattle.board.specs.Shapes.{ShapeModel}
+use Rattle.board.specs.Boards.{BoardModel, goal_of}
+use Rattle.board.specs.Weights.{WeightsModel, unit_rule}
+use Rattle.pattern_index.specs.Partitions.{PartitionModel}
+use Rattle.lower_bound.specs.Tables.{BoundModel, AreWhole}
+use Rattle.batch_runs.specs.Setups.{SetupModel}
 use Rattle.batch_runs.specs.declared.setup.SpreadKind.TheVariants.{Zobrist}
 use Rattle.table_sets.specs.Built.{AreTrueTables, AreBuilt, AreBuiltFolded}
 use Rattle.board_lists.specs.Lists.{MayBeListed}
@@ -14,31 +14,31 @@ use Rattle.command_line.specs.declared.requests.Request.{Request}
 use Rattle.command_line.specs.declared.requests.Request.TheVariants.{Solve, Certify, Check, Draw, Upgrade, Replay, Boards, Help, Version}
 
 -- the costs and the groups are of the goal's shape, and there are workers, not too many
-pub record AreFit (o : Options) : Type 0 where
+pub record AreOptionsFit (o : Options) : Type 0 where
   pub costs : o.costs.grid ≡ o.goal.grid
   pub sides : o.groups.grid ≡ o.goal.grid
   pub some : 1 ≤ o.workers
   pub few : o.workers ≤ 16
 
 -- so are those of a request that has options, and a class that is listed whole is small
-abbrev pub IsFit : Request → Type 0
-IsFit (Solve o) = AreFit o
-IsFit (Certify o) = AreFit o
-IsFit Check = ⊤
-IsFit (Draw style) = ⊤
-IsFit Upgrade = ⊤
-IsFit (Replay o) = AreFit o
-IsFit (Boards l) = MayBeListed l.goal.grid l.choice
-IsFit (Help text) = ⊤
-IsFit (Version text) = ⊤
+abbrev pub IsRequestFit : Request → Type 0
+IsRequestFit (Solve o) = AreOptionsFit o
+IsRequestFit (Certify o) = AreOptionsFit o
+IsRequestFit Check = ⊤
+IsRequestFit (Draw style) = ⊤
+IsRequestFit Upgrade = ⊤
+IsRequestFit (Replay o) = AreOptionsFit o
+IsRequestFit (Boards l) = MayBeListed l.goal.grid l.choice
+IsRequestFit (Help text) = ⊤
+IsRequestFit (Version text) = ⊤
 
 -- for each of the groups there is a table with the value of each view; or where that is asked for one that was folded from it
-abbrev pub AreTablesFor : Bool → Split → CostRule → Position → Tables → Type 0
+abbrev pub AreTablesFor : Bool → PartitionModel → WeightsModel → BoardModel → BoundModel → Type 0
 AreTablesFor true split rule goal tables = AreBuiltFolded split rule goal tables
 AreTablesFor false split rule goal tables = AreBuilt split rule goal tables
 
 -- the goal, the costs, the limit, the workers and their spread are those of the options, and the tables are those of the options' groups, folded where the options say so
-pub record IsSetupOf (o : Options) (setup : SetupState) : Type 0 where
+pub record IsSetupOf (o : Options) (setup : SetupModel) : Type 0 where
   pub goal : setup.goal ≡ o.goal
   pub rule : setup.rule ≡ o.costs
   pub tables : AreTablesFor o.fold o.groups setup.rule setup.goal setup.tables
@@ -47,11 +47,11 @@ pub record IsSetupOf (o : Options) (setup : SetupState) : Type 0 where
   pub spread : setup.spread ≡ o.spread
 
 -- 3 by 3
-abbrev pub small_grid : Grid
+abbrev pub small_grid : ShapeModel
 small_grid = record { rows = 3; cols = 3 }
 
 -- Korf's goal, unit cost, and two tables with the value of each view, neither of them folded: of the tiles 1 to 4, and of 5 to 8; without a limit, for one worker
-pub record IsDefaultSetup (setup : SetupState) : Type 0 where
+pub record IsDefaultSetup (setup : SetupModel) : Type 0 where
   pub goal : setup.goal ≡ goal_of small_grid
   pub rule : setup.rule ≡ unit_rule small_grid
   pub groups : map (λ g. g.tiles) setup.tables.split.groups ≡ (1 ∷ 2 ∷ 3 ∷ 4 ∷ []) ∷ (5 ∷ 6 ∷ 7 ∷ 8 ∷ []) ∷ []

@@ -1,8 +1,8 @@
 //! Commands, ready to run.
 
 ghost use Rattle.std.specs.Prelude.{IfOk, IfErr};
-ghost use Rattle.batch_cli.specs.Setups.{IsFit};
-ghost use Rattle.batch_cli.specs.Programs.{Serves, CanRun, LacksMemory, PrintsAsAsked};
+ghost use Rattle.batch_cli.specs.Setups.{IsRequestFit};
+ghost use Rattle.batch_cli.specs.Programs.{ServesRequest, CanRun, EndsWithoutMemory, PrintsAsAsked};
 
 use crate::setups::setup_of;
 use batch_runs::Setup;
@@ -46,10 +46,10 @@ pub(crate) fn command_for(
     alloc: Global,
     request: Request,
 ) -> Result<Command, OutOfMemory>
-    requires { IsFit request }
-    ensures command { IfOk result (Serves request) }
+    requires { IsRequestFit request }
+    ensures command { IfOk result (ServesRequest request) }
     ensures fit { IfOk result CanRun }
-    ensures lacking { IfErr result (LacksMemory request) }
+    ensures lacking { IfErr result (EndsWithoutMemory request) }
     ensures printed { IfOk result (PrintsAsAsked request) }
 {
     match request {

@@ -2,7 +2,8 @@
 
 ghost use Rattle.batch_cli.specs.Laws.{MessagesAreWhole, MessagesAreBegun, OutputsTellTheTruth};
 ghost use Rattle.batch_cli.specs.Laws.{SolvedOutputsTellTheTruth, CertificatesAnswerTheFirst};
-ghost use Rattle.batch_cli.specs.Laws.{AcceptedInputsAreTrue, DefaultSetupsAreKorfs, OptionsArePrinted};
+ghost use Rattle.batch_cli.specs.Laws.{AcceptedInputsAreTrue, DefaultSetupsAreKorfs};
+ghost use Rattle.batch_cli.specs.Laws.{OptionsArePrinted};
 
 /// To a stream that has not failed since, the message is written whole.
 pub fn messages_are_whole()

@@ -6,8 +6,9 @@ ghost use Rattle.byte_streams.specs.declared.sink.WriteFailed.{WriteFailed};
 ghost use Rattle.batch_runs.specs.Batches.{HasFailed};
 ghost use Rattle.board_lists.specs.Lists.{MayBeListed};
 ghost use Rattle.batch_cli.specs.Endings.{HasNotBegun};
-ghost use Rattle.batch_cli.specs.Programs.{Solves, Certifies, Judges, Draws, Rewrites};
-ghost use Rattle.batch_cli.specs.Programs.{TakesSteps, Lists, Shows, FlushesBehind, EndsBy, CanRun, Runs};
+ghost use Rattle.batch_cli.specs.Programs.{SolvesLines, CertifiesFirst, Judges, Draws, Rewrites};
+ghost use Rattle.batch_cli.specs.Programs.{TakesSteps, ListsClass, ShowsText, FlushesBehind};
+ghost use Rattle.batch_cli.specs.Programs.{EndsBy, CanRun, Runs};
 ghost use Rattle.batch_cli.specs.Programs.{after_flush, prints_progress, prints_stats};
 
 use crate::commands::{Command, command_for};
@@ -112,7 +113,7 @@ impl<'a, R: Threads + Wait + Sync, W: Watch + Sync> Runner<'a, R, W> {
         source: &mut S,
         sink: &mut K,
     ) -> Ending
-        ensures { Solves (change S.state source.old source.new) setup.now
+        ensures { SolvesLines (change S.state source.old source.new) setup.now
             (change K.state sink.old sink.new) result }
     {
         match run_watched(self.rt, self.alloc, source, sink, setup, watch) {
@@ -128,7 +129,7 @@ impl<'a, R: Threads + Wait + Sync, W: Watch + Sync> Runner<'a, R, W> {
         source: &mut S,
         sink: &mut K,
     ) -> Ending
-        ensures { Certifies (change S.state source.old source.new) setup.now
+        ensures { CertifiesFirst (change S.state source.old source.new) setup.now
             (change K.state sink.old sink.new) result }
     {
         match run_cert(self.rt, self.alloc, source, sink, setup, watch) {
@@ -181,7 +182,7 @@ impl<'a, R: Threads + Wait + Sync, W: Watch + Sync> Runner<'a, R, W> {
 // Lists boards.
 fn list<K: Sink>(sink: &mut K, listing: Listing) -> Ending
     requires { MayBeListed listing.goal.grid listing.choice }
-    ensures { Lists listing (change K.state sink.old sink.new) result }
+    ensures { ListsClass listing (change K.state sink.old sink.new) result }
 {
     match list_boards(sink, &listing.goal, listing.choice) {
         Ok(()) => Ending::Shown,
@@ -191,7 +192,7 @@ fn list<K: Sink>(sink: &mut K, listing: Listing) -> Ending
 
 // Writes a text.
 fn show<K: Sink>(sink: &mut K, text: &str) -> Ending
-    ensures { Shows text.now (change K.state sink.old sink.new) result }
+    ensures { ShowsText text.now (change K.state sink.old sink.new) result }
 {
     match sink.put(text.as_bytes()) {
         Ok(()) => Ending::Shown,

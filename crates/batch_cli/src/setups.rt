@@ -2,7 +2,7 @@
 
 ghost use Rattle.std.specs.Prelude.{◌≡◌, IfOk};
 ghost use Rattle.lower_bound.specs.Tables.{ArePotentials};
-ghost use Rattle.batch_cli.specs.Setups.{AreFit, AreTablesFor, IsSetupOf};
+ghost use Rattle.batch_cli.specs.Setups.{AreOptionsFit, AreTablesFor, IsSetupOf};
 
 use batch_runs::Setup;
 use command_line::Options;
@@ -20,7 +20,7 @@ pub(crate) fn setup_of(
     alloc: Global,
     options: Options,
 ) -> Result<Setup, OutOfMemory>
-    requires { AreFit options }
+    requires { AreOptionsFit options }
     ensures setup { IfOk result (IsSetupOf options) }
 {
     let Options {

@@ -9,13 +9,13 @@ use Rattle.std.proofs.lemmas.List.{append-nil, take_all, length-map, get_or-take
 use Rattle.std.proofs.Math.Seq.{take-nil}
 use Rattle.std.proofs.lemmas.List.Sums.{AllPass-from_list_all, list_all-from_AllPass}
 use Rattle.batch_lines.specs.TileNumbers.{tile_number}
-use Rattle.batch_lines.specs.Words.{words_of, id_of, tile_words, Spells, SpellEach, IsEntry, IsFirstWord, IsFirstWordFault, IsFirstEntryFault}
+use Rattle.batch_lines.specs.Words.{words_of, id_of, tile_words, SpellsNumber, SpellEach, IsEntry, IsFirstWord, IsFirstWordFault, IsFirstEntryFault}
 use Rattle.batch_lines.proofs.WordLemmas.{words_none, first_and_others}
 use Rattle.std.proofs.lemmas.List.Elements.{All-head, All-tail, All-weaker}
 use Rattle.std.proofs.lemmas.Option.{slice_get_within, get_or_from_slice_get, slice_get-get_or}
-use Rattle.board.specs.Grids.{Grid, cell_count}
-use Rattle.board.specs.Positions.{Position, IsBoard}
-use Rattle.board.specs.Faults.{IsFirstPlace, IsFirstFault}
+use Rattle.board.specs.Shapes.{ShapeModel, cell_count}
+use Rattle.board.specs.Boards.{BoardModel, IsBoard}
+use Rattle.board.specs.Faults.{IsFirstTilesPlace, IsFirstTilesFault}
 use Rattle.board.specs.declared.faults.TilesFault.{TilesFault}
 use Rattle.board.specs.declared.faults.TilesFault.TheVariants.{WrongCount, TileOutOfRange, TileRepeated}
 use Rattle.batch_lines.specs.declared.words.EntryFault.{EntryFault}
@@ -60,7 +60,7 @@ digits_of_small true false value small = absurd (omega arith)
 digits_of_small false all value small = absurd (omega arith)
 
 -- a word with a number below 255 spells that number
-pub Spells-from_number : (word : List ℕ) → tile_number word < 255 → Spells word (tile_number word)
+pub Spells-from_number : (word : List ℕ) → tile_number word < 255 → SpellsNumber word (tile_number word)
 Spells-from_number word small =
     let parts = digits_of_small (nat_lt 0 (length word)) (list_all is_ascii_digit word) (digits_value 10 word) small in
     record {
@@ -77,7 +77,7 @@ length_some [] some = absurd (some refl)
 length_some (b ∷ bs) some = omega arith
 
 -- the number of a word that spells one
-pub number-from_Spells : (word : List ℕ) (n : ℕ) → Spells word n → tile_number word ≡ min 255 n
+pub number-from_Spells : (word : List ℕ) (n : ℕ) → SpellsNumber word n → tile_number word ≡ min 255 n
 number-from_Spells word n spells =
     let some : nat_lt 0 (length word) ≡ true = lt-ltb 0 (length word) (length_some word spells.some) in
     let all : list_all is_ascii_digit word ≡ true = list_all-from_AllPass is_ascii_digit word (λ k d l. tested (get_or word k d) (spells.digits k d l)) in
@@ -98,7 +98,7 @@ number_before words place k d word before at =
     get_or-take place (map tile_number words) k d before ∙ get_or_default (map tile_number words) k d 0 within ∙ number_at words k word at
 
 -- where no number before a place is at fault, no word is
-first_word : (grid : Grid) (words : List (List ℕ)) (place : ℕ) → cell_count grid ≤ 25 → IsFirstPlace grid (map tile_number words) place → IsFirstWord grid words place
+first_word : (grid : ShapeModel) (words : List (List ℕ)) (place : ℕ) → cell_count grid ≤ 25 → IsFirstTilesPlace grid (map tile_number words) place → IsFirstWord grid words place
 first_word grid words place few first =
     let size = length-map words tile_number in
     let taken = length-take place (map tile_number words) in
@@ -117,7 +117,7 @@ first_word grid words place few first =
     }
 
 -- a word before a place, where none of these is at fault
-word_before : (grid : Grid) (words : List (List ℕ)) (place k : ℕ) → cell_count grid ≤ 25 → IsFirstWord grid words place → k < place → (word : List ℕ) × (slice_get words k ≡ Some word) × (tile_number word < cell_count grid)
+word_before : (grid : ShapeModel) (words : List (List ℕ)) (place k : ℕ) → cell_count grid ≤ 25 → IsFirstWord grid words place → k < place → (word : List ℕ) × (slice_get words k ≡ Some word) × (tile_number word < cell_count grid)
 word_before grid words place k few first before =
     let at = slice_get-get_or words k [] (omega (arith, first.within)) in
     let known = first.in_range k (get_or words k []) before at in
@@ -126,7 +126,7 @@ word_before grid words place k few first before =
     (get_or words k [], at, omega (arith, is, low))
 
 -- and the other way
-first_place : (grid : Grid) (words : List (List ℕ)) (place : ℕ) → cell_count grid ≤ 25 → IsFirstWord grid words place → IsFirstPlace grid (map tile_number words) place
+first_place : (grid : ShapeModel) (words : List (List ℕ)) (place : ℕ) → cell_count grid ≤ 25 → IsFirstWord grid words place → IsFirstTilesPlace grid (map tile_number words) place
 first_place grid words place few first =
     let size = length-map words tile_number in
     let taken = length-take place (map tile_number words) in
@@ -144,10 +144,10 @@ first_place grid words place few first =
           let e : tile_number two.0 ≡ tile_number one.0 = sym (number_before words place k d two.0 before two.1) ∙ sym same ∙ number_before words place j d one.0 (omega arith) one.1 in
           let one_low : tile_number one.0 < 255 = omega (arith, one.2) in
           let two_low : tile_number two.0 < 255 = omega (arith, two.2) in
-          first.different j k one.0 two.0 (tile_number one.0) below before one.1 two.1 (Spells-from_number one.0 one_low) (subst (λ (n : ℕ). Spells two.0 n) e (Spells-from_number two.0 two_low));
+          first.different j k one.0 two.0 (tile_number one.0) below before one.1 two.1 (Spells-from_number one.0 one_low) (subst (λ (n : ℕ). SpellsNumber two.0 n) e (Spells-from_number two.0 two_low));
     }
 
-out_of_range : (grid : Grid) (words : List (List ℕ)) (place : ℕ) → cell_count grid ≤ 25 → IsFirstFault grid (map tile_number words) (TileOutOfRange place) ↔ IsFirstWordFault grid words (TileOutOfRange place)
+out_of_range : (grid : ShapeModel) (words : List (List ℕ)) (place : ℕ) → cell_count grid ≤ 25 → IsFirstTilesFault grid (map tile_number words) (TileOutOfRange place) ↔ IsFirstWordFault grid words (TileOutOfRange place)
 out_of_range grid words place few = (
   (λ fault.
       let first = first_word grid words place few fault.0 in
@@ -160,7 +160,7 @@ out_of_range grid words place few = (
       (first_place grid words place few fault.1, subst (λ (n : ℕ). cell_count grid ≤ n) (sym is) high)),
 )
 
-repeated : (grid : Grid) (words : List (List ℕ)) (place : ℕ) → cell_count grid ≤ 25 → IsFirstFault grid (map tile_number words) (TileRepeated place) ↔ IsFirstWordFault grid words (TileRepeated place)
+repeated : (grid : ShapeModel) (words : List (List ℕ)) (place : ℕ) → cell_count grid ≤ 25 → IsFirstTilesFault grid (map tile_number words) (TileRepeated place) ↔ IsFirstWordFault grid words (TileRepeated place)
 repeated grid words place few = (
   (λ fault.
       let first = first_word grid words place few fault.0 in
@@ -172,7 +172,7 @@ repeated grid words place few = (
       let earlier = word_before grid words place k few first before in
       let same : tile_number earlier.0 ≡ tile_number (get_or words place []) = sym (number_before words place k (get_or (map tile_number words) place 0) earlier.0 before earlier.1) ∙ fault.2.2 ∙ is in
       let earlier_low : tile_number earlier.0 < 255 = omega (arith, earlier.2) in
-      (get_or words place [], tile_number (get_or words place []), k, earlier.0, first, at, Spells-from_number (get_or words place []) (omega arith), low, before, earlier.1, subst (λ (n : ℕ). Spells earlier.0 n) same (Spells-from_number earlier.0 earlier_low))),
+      (get_or words place [], tile_number (get_or words place []), k, earlier.0, first, at, Spells-from_number (get_or words place []) (omega arith), low, before, earlier.1, subst (λ (n : ℕ). SpellsNumber earlier.0 n) same (Spells-from_number earlier.0 earlier_low))),
   (λ fault.
       let first = first_place grid words place few fault.4 in
       let is = number_at words place fault.0 fault.5 ∙ number-from_Spells fault.0 fault.1 fault.6 in
@@ -181,24 +181,24 @@ repeated grid words place few = (
 )
 
 -- the first fault of the numbers is that of the words
-same_fault : (grid : Grid) (words : List (List ℕ)) → cell_count grid ≤ 25 → (fault : TilesFault) → IsFirstFault grid (map tile_number words) fault ↔ IsFirstWordFault grid words fault
+same_fault : (grid : ShapeModel) (words : List (List ℕ)) → cell_count grid ≤ 25 → (fault : TilesFault) → IsFirstTilesFault grid (map tile_number words) fault ↔ IsFirstWordFault grid words fault
 same_fault grid words few WrongCount = (λ wrong e. wrong (length-map words tile_number ∙ e), λ wrong e. wrong (sym (length-map words tile_number) ∙ e))
 same_fault grid words few (TileOutOfRange place) = out_of_range grid words place few
 same_fault grid words few (TileRepeated place) = repeated grid words place few
 
 -- a surplus of words is a surplus of numbers
-surplus : (grid : Grid) (words : List (List ℕ)) → cell_count grid ≤ 25 → 26 < length words → (fault : TilesFault) → IsFirstFault grid (map tile_number (take 26 words)) fault ↔ IsFirstWordFault grid words fault
+surplus : (grid : ShapeModel) (words : List (List ℕ)) → cell_count grid ≤ 25 → 26 < length words → (fault : TilesFault) → IsFirstTilesFault grid (map tile_number (take 26 words)) fault ↔ IsFirstWordFault grid words fault
 surplus grid words few more WrongCount = (λ wrong e. absurd (omega arith), λ wrong e. absurd (omega (arith, length-map (take 26 words) tile_number, length-take 26 words)))
 surplus grid words few more (TileOutOfRange place) = (λ fault. absurd (let e = fault.0.one_each in omega (arith, length-map (take 26 words) tile_number, length-take 26 words)), λ fault. absurd (let e = fault.1.one_each in omega arith))
 surplus grid words few more (TileRepeated place) = (λ fault. absurd (let e = fault.0.one_each in omega (arith, length-map (take 26 words) tile_number, length-take 26 words)), λ fault. absurd (let e = fault.4.one_each in omega arith))
 
 -- the first fault of the numbers that are read is that of the words
-pub read_fault : (grid : Grid) (words : List (List ℕ)) (numbers : List ℕ) → cell_count grid ≤ 25 → numbers ≡ map tile_number (take 26 words) → (fault : TilesFault) → IsFirstFault grid numbers fault ↔ IsFirstWordFault grid words fault
+pub read_fault : (grid : ShapeModel) (words : List (List ℕ)) (numbers : List ℕ) → cell_count grid ≤ 25 → numbers ≡ map tile_number (take 26 words) → (fault : TilesFault) → IsFirstTilesFault grid numbers fault ↔ IsFirstWordFault grid words fault
 read_fault grid words numbers few read fault =
-    subst (λ (ns : List ℕ). IsFirstFault grid ns fault ↔ IsFirstWordFault grid words fault) (sym read)
+    subst (λ (ns : List ℕ). IsFirstTilesFault grid ns fault ↔ IsFirstWordFault grid words fault) (sym read)
     (⊎_elim
     (λ (more : 26 < length words). surplus grid words few more fault)
-    (λ (all : length words ≤ 26). subst (λ (ws : List (List ℕ)). IsFirstFault grid (map tile_number ws) fault ↔ IsFirstWordFault grid words fault) (sym (take_all 26 words all)) (same_fault grid words few fault))
+    (λ (all : length words ≤ 26). subst (λ (ws : List (List ℕ)). IsFirstTilesFault grid (map tile_number ws) fault ↔ IsFirstWordFault grid words fault) (sym (take_all 26 words all)) (same_fault grid words few fault))
     (cases_lt 26 (length words)))
 
 spell_each : (words : List (List ℕ)) → All (λ n. n < 255) (map tile_number words) → SpellEach words (map tile_number words)
@@ -206,7 +206,7 @@ spell_each [] small = tt
 spell_each (word ∷ words) small = (Spells-from_number word (All-head (λ n. n < 255) (tile_number word) (map tile_number words) small), spell_each words (All-tail (λ n. n < 255) (tile_number word) (map tile_number words) small))
 
 -- the words spell the tiles of a board
-pub spelled : (grid : Grid) (words : List (List ℕ)) (numbers : List ℕ) → cell_count grid ≤ 25 → numbers ≡ map tile_number (take 26 words) → IsBoard (record { grid = grid; tiles = numbers }) → SpellEach words numbers
+pub spelled : (grid : ShapeModel) (words : List (List ℕ)) (numbers : List ℕ) → cell_count grid ≤ 25 → numbers ≡ map tile_number (take 26 words) → IsBoard (record { grid = grid; tiles = numbers }) → SpellEach words numbers
 spelled grid words numbers few read board =
     let all : length words ≤ 26 = omega (arith, board.one_each, ap length read, length-map (take 26 words) tile_number, length-take 26 words) in
     let same : numbers ≡ map tile_number words = read ∙ ap (λ (ws : List (List ℕ)). map tile_number ws) (take_all 26 words all) in
@@ -218,9 +218,9 @@ pub tiles_read : (line text rest items numbers : List ℕ) → text ≡ line →
 tiles_read line text rest items numbers whole behind read same = same ∙ read ∙ ap (λ (words : List (List ℕ)). map tile_number (take 26 words)) (behind ∙ ap (λ (bs : List ℕ). tile_words (words_of bs)) whole)
 
 -- an id and a board make an entry
-pub entry_is : (grid : Grid) (line id numbers : List ℕ) (b : Position) → cell_count grid ≤ 25 → numbers ≡ map tile_number (take 26 (tile_words (words_of line))) → IsUtf8 line → id ≡ id_of (words_of line) → IsBoard (record { grid = grid; tiles = numbers }) → b ≡ record { grid = grid; tiles = numbers } → IsEntry grid line id b
+pub entry_is : (grid : ShapeModel) (line id numbers : List ℕ) (b : BoardModel) → cell_count grid ≤ 25 → numbers ≡ map tile_number (take 26 (tile_words (words_of line))) → IsUtf8 line → id ≡ id_of (words_of line) → IsBoard (record { grid = grid; tiles = numbers }) → b ≡ record { grid = grid; tiles = numbers } → IsEntry grid line id b
 entry_is grid line id numbers b few read text named board is =
-    subst (λ (p : Position). IsEntry grid line id p) (sym is)
+    subst (λ (p : BoardModel). IsEntry grid line id p) (sym is)
     (record {
       text = text;
       named = named;
@@ -230,7 +230,7 @@ entry_is grid line id numbers b few read text named board is =
     })
 
 -- where the numbers have no fault, the line has none
-pub no_fault : {A B : Type 0} (grid : Grid) (line numbers : List ℕ) (board : A) (entry : B) → cell_count grid ≤ 25 → numbers ≡ map tile_number (take 26 (tile_words (words_of line))) → IsUtf8 line → ((fault : TilesFault) → IsErrOf {T = A} {E = TilesFault} (Ok board) fault ↔ IsFirstFault grid numbers fault) → (fault : EntryFault) → IsErrOf {T = B} {E = EntryFault} (Ok entry) fault ↔ IsFirstEntryFault grid line fault
+pub no_fault : {A B : Type 0} (grid : ShapeModel) (line numbers : List ℕ) (board : A) (entry : B) → cell_count grid ≤ 25 → numbers ≡ map tile_number (take 26 (tile_words (words_of line))) → IsUtf8 line → ((fault : TilesFault) → IsErrOf {T = A} {E = TilesFault} (Ok board) fault ↔ IsFirstTilesFault grid numbers fault) → (fault : EntryFault) → IsErrOf {T = B} {E = EntryFault} (Ok entry) fault ↔ IsFirstEntryFault grid line fault
 no_fault grid line numbers board entry few read text none NoText = (λ e. absurd (cc), λ no. absurd (no text))
 no_fault grid line numbers board entry few read text none (NoBoard fault) = (
   (λ e. absurd (cc)),
@@ -238,7 +238,7 @@ no_fault grid line numbers board entry few read text none (NoBoard fault) = (
 )
 
 -- the fault of the numbers is the fault of the line
-pub entry_fault : {A B : Type 0} (grid : Grid) (line numbers : List ℕ) (found : TilesFault) → cell_count grid ≤ 25 → numbers ≡ map tile_number (take 26 (tile_words (words_of line))) → IsUtf8 line → ((fault : TilesFault) → IsErrOf {T = A} {E = TilesFault} (Err found) fault ↔ IsFirstFault grid numbers fault) → (fault : EntryFault) → IsErrOf {T = B} {E = EntryFault} (Err (NoBoard found)) fault ↔ IsFirstEntryFault grid line fault
+pub entry_fault : {A B : Type 0} (grid : ShapeModel) (line numbers : List ℕ) (found : TilesFault) → cell_count grid ≤ 25 → numbers ≡ map tile_number (take 26 (tile_words (words_of line))) → IsUtf8 line → ((fault : TilesFault) → IsErrOf {T = A} {E = TilesFault} (Err found) fault ↔ IsFirstTilesFault grid numbers fault) → (fault : EntryFault) → IsErrOf {T = B} {E = EntryFault} (Err (NoBoard found)) fault ↔ IsFirstEntryFault grid line fault
 entry_fault grid line numbers found few read text same NoText = (λ e. absurd (cc), λ no. absurd (no text))
 entry_fault grid line numbers found few read text same (NoBoard fault) = (
   (λ e. let is : found ≡ fault = cc in (text, (read_fault grid (tile_words (words_of line)) numbers few read fault).0 ((same fault).0 (ap Err is)))),

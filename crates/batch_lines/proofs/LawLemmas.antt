@@ -3,7 +3,7 @@ use Rattle.std.proofs.Common.{ℕ, ◌≡◌, ◌⊎◌, ◌+◌, ◌<◌, ◌�
 use Rattle.byte_streams.specs.Streams.{SourceState, Change}
 use Rattle.byte_streams.specs.declared.source.ReadFailed.{ReadFailed}
 use Rattle.batch_lines.specs.Lines.{lines_of}
-use Rattle.batch_lines.specs.Readings.{Reading, TakesKnown, CountsKnown, ReadsLine, Stops}
+use Rattle.batch_lines.specs.Readings.{LineReaderModel, TakesKnown, CountsKnown, ReadsLine, StopsReading}
 use Rattle.batch_lines.specs.Laws.{EndsTakeNothing, LinesAreNumbered, LinesAreLostToFailures}
 use Rattle.batch_lines.specs.declared.lines.TheConstants.{INPUT_LIMIT}
 
@@ -34,6 +34,6 @@ within old new input before after is counted fits past = of_new new (subst (λ (
 pub lost : LinesAreLostToFailures
 lost source reader failure input is fits read = of_stop read.3
   where
-    of_stop : Stops source reader.after.taken → source.after.has_failed ≡ true
+    of_stop : StopsReading source reader.after.taken → source.after.has_failed ≡ true
     of_stop (inl failed) = failed
     of_stop (inr past) = absurd (within source.before.left source.after.left input reader.before.taken reader.after.taken is read.2 fits past)

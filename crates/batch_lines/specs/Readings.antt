@@ -13,7 +13,7 @@ use Rattle.batch_lines.specs.declared.lines.LineKind.TheVariants.{Within}
 use Rattle.batch_lines.specs.declared.lines.TheConstants.{INPUT_LIMIT}
 
 -- where a reader stands: how many lines and how many bytes it has taken, and what it keeps of the last line
-pub record Reading : Type 0 where
+pub record LineReaderModel : Type 0 where
   pub lines : ℕ
   pub taken : ℕ
   pub kept : List ℕ
@@ -61,21 +61,21 @@ abbrev pub GoesOn : Change SourceState → ℕ → Type 0
 GoesOn source taken = ReadsOn source × (taken ≤ INPUT_LIMIT)
 
 -- the source has failed, or more bytes were taken than an input may have
-abbrev pub Stops : Change SourceState → ℕ → Type 0
-Stops source taken = (source.after.has_failed ≡ true) ⊎ (INPUT_LIMIT < taken)
+abbrev pub StopsReading : Change SourceState → ℕ → Type 0
+StopsReading source taken = (source.after.has_failed ≡ true) ⊎ (INPUT_LIMIT < taken)
 
 -- The next line is taken and numbered; or none is left and nothing is taken; or the line is lost.
-abbrev pub ReadsLine : Change SourceState → Change Reading → Result (Option Line) ReadFailed → Type 0
+abbrev pub ReadsLine : Change SourceState → Change LineReaderModel → Result (Option Line) ReadFailed → Type 0
 ReadsLine source reader (Ok None) = IsEnded source × (reader.after.lines ≡ reader.before.lines) × (reader.after.taken ≡ reader.before.taken) × GoesOn source reader.after.taken
 ReadsLine source reader (Ok (Some line)) =
     (bytes : List ℕ) × TakesLine source bytes × IsJudged bytes line.kind reader.after.kept × (line.number ≡ reader.before.lines + 1) × (reader.after.lines ≡ line.number) × (reader.before.taken < reader.after.taken)
     × CountsTaken source (record { before = reader.before.taken; after = reader.after.taken }) × GoesOn source reader.after.taken
 ReadsLine source reader (Err failure) =
     TakesNoLine source (INPUT_LIMIT - reader.before.taken) × (reader.after.lines ≡ reader.before.lines)
-    × CountsTaken source (record { before = reader.before.taken; after = reader.after.taken }) × Stops source reader.after.taken
+    × CountsTaken source (record { before = reader.before.taken; after = reader.after.taken }) × StopsReading source reader.after.taken
 
 -- The next line is taken, and so much is remembered of it; or none is left and nothing is taken; or the line is lost. What is taken is counted.
 abbrev pub ScansLine : Change SourceState → Change ℕ → List ℕ → Result (Option Scan) ReadFailed → Type 0
 ScansLine source taken kept (Ok None) = IsEnded source × (taken.after ≡ taken.before) × GoesOn source taken.after
 ScansLine source taken kept (Ok (Some scan)) = (line : List ℕ) × TakesLine source line × IsScanned line kept scan × (taken.before < taken.after) × CountsTaken source taken × GoesOn source taken.after
-ScansLine source taken kept (Err failure) = TakesNoLine source (INPUT_LIMIT - taken.before) × CountsTaken source taken × Stops source taken.after × (taken.before ≤ taken.after)
+ScansLine source taken kept (Err failure) = TakesNoLine source (INPUT_LIMIT - taken.before) × CountsTaken source taken × StopsReading source taken.after × (taken.before ≤ taken.after)

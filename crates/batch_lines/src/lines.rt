@@ -4,7 +4,7 @@ ghost use Rattle.std.specs.Prelude.{◌≡◌, ◌≤◌, ℕ, List, [], take};
 ghost use Rattle.byte_streams.specs.Streams.{change, from_to};
 ghost use Rattle.batch_lines.specs.Lines.{without_return};
 ghost use Rattle.batch_lines.specs.Starts.{start_after, passes, IsScanned};
-ghost use Rattle.batch_lines.specs.Readings.{Reading, IsJudged, ReadsLine, ScansLine};
+ghost use Rattle.batch_lines.specs.Readings.{LineReaderModel, IsJudged, ReadsLine, ScansLine};
 
 use arrayvec::ArrayVec;
 use byte_streams::{ReadFailed, Source};
@@ -47,7 +47,7 @@ pub struct LineReader {
 }
 
 impl Model for LineReader {
-    ghost Value = { Reading };
+    ghost Value = { LineReaderModel };
 
     ghost view = { λ r. record { lines = r.lines; taken = r.taken; kept = r.kept.items } };
 

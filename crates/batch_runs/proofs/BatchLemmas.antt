@@ -16,10 +16,10 @@ use Rattle.batch_lines.specs.declared.lines.TheConstants.{INPUT_LIMIT}
 use Rattle.batch_runs.specs.Batches.{Rules, Answer, AnswersEntry, AnswersKind, AnswersLine, AnswersLines, answer_text, answers_text, with_answer, with_answers, no_lines, AreRead, AreFirst, TakesSome, ReportsFirst, ReportsSome, IsTruthful, ReportsLines, status_of_counts, AreAll, IsTooLong}
 use Rattle.batch_runs.specs.Batches.Answer.{passed_over, refused, answered}
 use Rattle.batch_runs.specs.declared.batch.Summary.{Summary}
-use Rattle.batch_runs.specs.Headline.{IsTrueRun, TellsTheTruth, OutputsTellTheTruth, BeginningsTellTheTruth}
+use Rattle.batch_runs.specs.Headline.{IsTrueRun, TellsTheTruth, BatchOutputsTellTheTruth, BeginningsTellTheTruth}
 use Rattle.batch_runs.specs.declared.faults.LinesFault.{LinesFault}
 use Rattle.batch_runs.specs.declared.faults.LinesFault.TheVariants.{Read, Write, Memory}
-use Rattle.batch_runs.specs.Laws.{LinesAreLostToFailures, OutputsAreAnswers, FailedWritesAreTold}
+use Rattle.batch_runs.specs.Laws.{BatchLinesAreLostToFailures, OutputsAreAnswers, FailedWritesAreTold}
 use Rattle.batch_runs.proofs.TruthLemmas.{truth, settled}
 
 -- ---- the reports of lines, one line after the other: one answer more
@@ -280,7 +280,7 @@ run_true rules truthful source sink (Err (Memory lacking)) (first, readable, kep
 fits : (left : Option (List ℕ)) (input : List ℕ) → left ≡ Some input → length input ≤ INPUT_LIMIT → ¬ IsTooLong left
 fits left input is short long = let more = subst (λ (l : Option (List ℕ)). IsTooLong l) is long in omega (arith, short, more)
 
-pub lost : LinesAreLostToFailures
+pub lost : BatchLinesAreLostToFailures
 lost source lines input is short losing = of_cause losing.cause
   where
     of_cause : (source.after.has_failed ≡ true) ⊎ IsTooLong source.before.left → source.after.has_failed ≡ true
@@ -301,7 +301,7 @@ outputs rules source sink counts input known empty reports =
     let lines_are : lines_of input ≡ all.lines = subst (λ (left : Option (List ℕ)). AreAll left all.lines) known all.all in
     (all.answers, subst (λ (lines : List (List ℕ)). AnswersLines rules lines all.answers) (sym lines_are) all.answered, held sink.before.contents sink.after.contents (answers_text 1 all.answers) empty all.written)
 
-pub outputs_true : (rules : Rules) → OutputsTellTheTruth rules
+pub outputs_true : (rules : Rules) → BatchOutputsTellTheTruth rules
 outputs_true rules source sink status input known empty all =
     let lines_are : lines_of input ≡ all.lines = subst (λ (left : Option (List ℕ)). AreAll left all.lines) known all.all in
     (all.output, held sink.before.contents sink.after.contents all.output empty all.put, subst (λ (lines : List (List ℕ)). TellsTheTruth rules lines all.output) (sym lines_are) all.truth, all.settled)

@@ -7,8 +7,8 @@ use Rattle.std.specs.Prelude.{Bool, true, false, nat_lt, ⊤, ◌⊎◌}
 use Rattle.serde_json.specs.Data.{Data, null, boolean, number, string, array, object}
 use Rattle.serde_json.specs.Read.{read}
 use Rattle.serde_json.specs.Written.{compact_text}
-use Rattle.board.specs.Grids.{Grid, cell_count}
-use Rattle.board.specs.Positions.{Position, IsBoard}
+use Rattle.board.specs.Shapes.{ShapeModel, cell_count}
+use Rattle.board.specs.Boards.{BoardModel, IsBoard}
 use Rattle.board.specs.declared.faults.TilesFault.{TilesFault}
 use Rattle.board.specs.declared.faults.TilesFault.TheVariants.{WrongCount, TileOutOfRange, TileRepeated}
 use Rattle.outcomes.specs.Outcomes.{Task, best_of}
@@ -16,23 +16,23 @@ use Rattle.outcomes.specs.Endings.{EndAnswers}
 use Rattle.outcomes.specs.declared.outcome.Ending.{Ending}
 use Rattle.outcomes.specs.declared.outcome.Ending.TheVariants.{Optimal, Unsolvable, Bounded}
 use Rattle.batch_lines.specs.Lines.{without_return, lines_of, onto_first, is_passed_over, kind_of}
-use Rattle.batch_lines.specs.Words.{IsEntry, Spells, SpellEach, words_of, tile_words, IsFirstWordFault, IsFirstEntryFault, entry_code}
+use Rattle.batch_lines.specs.Words.{IsEntry, SpellsNumber, SpellEach, words_of, tile_words, IsFirstWordFault, IsFirstEntryFault, entry_code}
 use Rattle.batch_lines.specs.declared.words.EntryFault.{EntryFault}
 use Rattle.batch_lines.specs.declared.words.EntryFault.TheVariants.{NoText, NoBoard}
 use Rattle.batch_lines.specs.declared.lines.LineKind.{LineKind}
 use Rattle.batch_lines.specs.declared.lines.LineKind.TheVariants.{PassedOver, Within, TooLong}
 use Rattle.batch_lines.specs.declared.lines.TheConstants.{LINE_LIMIT}
 use Rattle.reports.specs.Reports.{outcome_data, refused_data, report_text}
-use Rattle.reports.specs.Readings.{IsSmall, AreSmall, IsReport, HasStatus}
+use Rattle.reports.specs.Readings.{IsSmall, HasSmallNumbers, IsReport, HasStatus}
 use Rattle.reports.specs.Readings.IsReport.{of_outcome, of_line}
 use Rattle.reports.proofs.ReadLemmas.{report_read}
 use Rattle.reports.proofs.TextLemmas.{text_other}
-use Rattle.batch_runs.specs.Meanings.{Names, HasFault, asks, questions, IsQuestion, IsReply, SaysRefused, IsSettled}
+use Rattle.batch_runs.specs.Meanings.{Names, HasFault, asks, questions, IsQuestion, IsReply, SaysRefused, AreAllDecided}
 use Rattle.batch_runs.specs.Batches.{Rules, IsTruthful, Answer, AnswersEntry, AnswersKind, AnswersLine, AnswersLines, answer_text, answers_text, with_answer, with_answers, no_lines, status_of_counts}
 use Rattle.batch_runs.specs.Batches.Answer.{passed_over, refused, answered}
 use Rattle.batch_runs.specs.Batches.AnswersEntry.{by_fault, by_outcome, by_want}
 use Rattle.batch_runs.specs.declared.batch.Summary.{Summary}
-use Rattle.batch_runs.specs.Headline.{IsTrueOf, TellsTheTruth}
+use Rattle.batch_runs.specs.Headline.{IsTrueOfBoard, TellsTheTruth}
 
 -- ---- a line names one board, and then it has no fault
 
@@ -48,7 +48,7 @@ same_numbers (word ∷ words) (m ∷ ms) (n ∷ ns) h k =
     (λ i. first i ∷ rest i)
 
 -- a line names one board by one id
-pub same_name : (grid : Grid) (line id id' : List ℕ) (b b' : Position) → Names grid line id b → Names grid line id' b' → (id' ≡ id) × (b' ≡ b)
+pub same_name : (grid : ShapeModel) (line id id' : List ℕ) (b b' : BoardModel) → Names grid line id b → Names grid line id' b' → (id' ≡ id) × (b' ≡ b)
 same_name grid line id id' b b' (within, h) (within', k) =
     let sides : b'.grid ≡ b.grid = k.sides ∙ sym h.sides in
     let tiles : b'.tiles ≡ b.tiles = same_numbers (tile_words (words_of (without_return line))) b'.tiles b.tiles k.spelled h.spelled in
@@ -59,10 +59,10 @@ word_or None = []
 word_or (Some word) = word
 
 -- the word at a place spells the number there
-spelled_at : (words : List (List ℕ)) (ns : List ℕ) (k : ℕ) (word : List ℕ) → SpellEach words ns → slice_get words k ≡ Some word → (n : ℕ) × (slice_get ns k ≡ Some n) × Spells word n
+spelled_at : (words : List (List ℕ)) (ns : List ℕ) (k : ℕ) (word : List ℕ) → SpellEach words ns → slice_get words k ≡ Some word → (n : ℕ) × (slice_get ns k ≡ Some n) × SpellsNumber word n
 spelled_at [] ns k word h e = absurd (cc)
 spelled_at (w ∷ words) [] k word h e = absurd h
-spelled_at (w ∷ words) (n ∷ ns) zero word h e = (n, refl, subst (λ (v : List ℕ). Spells v n) (ap word_or e) h.0)
+spelled_at (w ∷ words) (n ∷ ns) zero word h e = (n, refl, subst (λ (v : List ℕ). SpellsNumber v n) (ap word_or e) h.0)
 spelled_at (w ∷ words) (n ∷ ns) (suc k) word h e = spelled_at words ns k word h.1 e
 
 spelled_length : (words : List (List ℕ)) (ns : List ℕ) → SpellEach words ns → length words ≡ length ns
@@ -78,11 +78,11 @@ pairs_at : (ns : List ℕ) (j k m n : ℕ) → AllPairs (λ x y. x ≢ y) ns →
 pairs_at ns j k m n apart less first later same =
     apart j k 0 less (slice_get_within ns k n later) (get_or_from_slice_get ns j m 0 first ∙ same ∙ sym (get_or_from_slice_get ns k n 0 later))
 
-no_word_fault : (grid : Grid) (words : List (List ℕ)) (b : Position) → SpellEach words b.tiles → IsBoard b → b.grid ≡ grid → (fault : TilesFault) → ¬ IsFirstWordFault grid words fault
+no_word_fault : (grid : ShapeModel) (words : List (List ℕ)) (b : BoardModel) → SpellEach words b.tiles → IsBoard b → b.grid ≡ grid → (fault : TilesFault) → ¬ IsFirstWordFault grid words fault
 no_word_fault grid words b spells board sides WrongCount found = found (spelled_length words b.tiles spells ∙ board.one_each ∙ ap cell_count sides)
 no_word_fault grid words b spells board sides (TileOutOfRange place) (word, first, at, large) =
     let here = spelled_at words b.tiles place word spells at in
-    let low : here.0 < cell_count grid = subst (λ (g : Grid). here.0 < cell_count g) sides (all_at b.tiles place here.0 (cell_count b.grid) board.in_range here.1) in
+    let low : here.0 < cell_count grid = subst (λ (g : ShapeModel). here.0 < cell_count g) sides (all_at b.tiles place here.0 (cell_count b.grid) board.in_range here.1) in
     omega (arith, large here.0 here.2)
 no_word_fault grid words b spells board sides (TileRepeated place) (word, n, k, before, first, at, spell, low, less, there, same) =
     let one = spelled_at words b.tiles place word spells at in
@@ -90,7 +90,7 @@ no_word_fault grid words b spells board sides (TileRepeated place) (word, n, k, 
     let equal : two.0 ≡ one.0 = sym two.2.value ∙ same.value ∙ sym spell.value ∙ one.2.value in
     pairs_at b.tiles k place two.0 one.0 board.different less two.1 one.1 equal
 
-no_entry_fault : (grid : Grid) (line id : List ℕ) (b : Position) → IsEntry grid line id b → (fault : EntryFault) → ¬ IsFirstEntryFault grid line fault
+no_entry_fault : (grid : ShapeModel) (line id : List ℕ) (b : BoardModel) → IsEntry grid line id b → (fault : EntryFault) → ¬ IsFirstEntryFault grid line fault
 no_entry_fault grid line id b entry NoText found = found entry.text
 no_entry_fault grid line id b entry (NoBoard fault) found = no_word_fault grid (tile_words (words_of line)) b entry.spelled entry.board entry.sides fault found.1
 
@@ -104,7 +104,7 @@ not_both : TooLong ≢ Within
 not_both e = true≢false (ap is_long e)
 
 -- a line that names a board has no fault
-pub no_fault : (grid : Grid) (line id code : List ℕ) (b : Position) → Names grid line id b → ¬ HasFault grid line code
+pub no_fault : (grid : ShapeModel) (line id code : List ℕ) (b : BoardModel) → Names grid line id b → ¬ HasFault grid line code
 no_fault grid line id code b (within, entry) (inl (long, is)) = not_both (sym long ∙ within)
 no_fault grid line id code b (within, entry) (inr (within', (fault, first, is))) = no_entry_fault grid (without_return line) id b entry fault first
 
@@ -136,8 +136,8 @@ kind_asks line e =
 -- the value that is told of line n
 data Tells (rules : Rules) (n : ℕ) (line : List ℕ) : Data → Type 0 where
   of_fault : (code : List ℕ) → IsSmall n → HasFault rules.grid line code → Tells rules n line (refused_data code n)
-  of_want : (id : List ℕ) (b : Position) → IsSmall n → Names rules.grid line id b → rules.allows b None → Tells rules n line (refused_data (codes "V3") n)
-  of_board : (id : List ℕ) (b : Position) (outcome : Ending) → Names rules.grid line id b → rules.allows b (Some outcome) → AreSmall outcome → Tells rules n line (outcome_data id outcome)
+  of_want : (id : List ℕ) (b : BoardModel) → IsSmall n → Names rules.grid line id b → rules.allows b None → Tells rules n line (refused_data (codes "V3") n)
+  of_board : (id : List ℕ) (b : BoardModel) (outcome : Ending) → Names rules.grid line id b → rules.allows b (Some outcome) → HasSmallNumbers outcome → Tells rules n line (outcome_data id outcome)
 
 -- an answer that names a least plan, or that there is none
 abbrev pub IsSettledAnswer : Answer → Type 0
@@ -256,7 +256,7 @@ text_in (object ms) = []
 abbrev first_letter : Option Data → ℕ
 first_letter o = get_or (text_in (data_or o)) 0 0
 
-outcome_true : (task : Task) (id : List ℕ) (outcome : Ending) → EndAnswers task outcome → IsTrueOf task id (outcome_data id outcome)
+outcome_true : (task : Task) (id : List ℕ) (outcome : Ending) → EndAnswers task outcome → IsTrueOfBoard task id (outcome_data id outcome)
 outcome_true task id (Optimal cost plan) answers = record {
   status = inl refl;
   named = refl;
@@ -279,18 +279,18 @@ outcome_true task id (Bounded bound best cause) answers = record {
   bounded = λ e. (bound, best_of best, cause, refl, refl, refl, answers.0.0, answers.0.3, answers.0.4);
 }
 
-module _ (rules : Rules) (n : ℕ) (id : List ℕ) (b : Position) where
-  named_true : IsTruthful rules → (line : List ℕ) (d : Data) → Names rules.grid line id b → Tells rules n line d → IsTrueOf (rules.task b) id d ⊎ SaysRefused d (codes "V3") n × rules.allows b None
+module _ (rules : Rules) (n : ℕ) (id : List ℕ) (b : BoardModel) where
+  named_true : IsTruthful rules → (line : List ℕ) (d : Data) → Names rules.grid line id b → Tells rules n line d → IsTrueOfBoard (rules.task b) id d ⊎ SaysRefused d (codes "V3") n × rules.allows b None
   named_true truthful line d names (of_fault code small fault) = absurd (no_fault rules.grid line id code b names fault)
   named_true truthful line d names (of_want id' b' small names' lacking) =
-      inr ((refl, refl, refl), subst (λ (p : Position). rules.allows p None) (same_name rules.grid line id id' b b' names names').1 lacking)
+      inr ((refl, refl, refl), subst (λ (p : BoardModel). rules.allows p None) (same_name rules.grid line id id' b b' names names').1 lacking)
   named_true truthful line d names (of_board id' b' outcome names' allowed small) =
       let same = same_name rules.grid line id id' b b' names names' in
-      let answers : EndAnswers (rules.task b) outcome = subst (λ (p : Position). EndAnswers (rules.task p) outcome) same.1 (truthful b' outcome allowed) in
-      inl (subst (λ (name : List ℕ). IsTrueOf (rules.task b) id (outcome_data name outcome)) (sym same.0) (outcome_true (rules.task b) id outcome answers))
+      let answers : EndAnswers (rules.task b) outcome = subst (λ (p : BoardModel). EndAnswers (rules.task p) outcome) same.1 (truthful b' outcome allowed) in
+      inl (subst (λ (name : List ℕ). IsTrueOfBoard (rules.task b) id (outcome_data name outcome)) (sym same.0) (outcome_true (rules.task b) id outcome answers))
 
 module _ (rules : Rules) where
-  unnamed_true : (n : ℕ) (line : List ℕ) (d : Data) → ((id : List ℕ) (b : Position) → ¬ Names rules.grid line id b) → Tells rules n line d → (code : List ℕ) × HasFault rules.grid line code × SaysRefused d code n
+  unnamed_true : (n : ℕ) (line : List ℕ) (d : Data) → ((id : List ℕ) (b : BoardModel) → ¬ Names rules.grid line id b) → Tells rules n line d → (code : List ℕ) × HasFault rules.grid line code × SaysRefused d code n
   unnamed_true n line d none (of_fault code small fault) = (code, fault, (refl, refl, refl))
   unnamed_true n line d none (of_want id b small names lacking) = absurd (none id b names)
   unnamed_true n line d none (of_board id b outcome names allowed small) = absurd (none id b names)
@@ -312,7 +312,7 @@ module _ (rules : Rules) (S : Type 0) (lines : List (List ℕ)) (output : List �
       let question : at.0 ≡ (n, line) = ap question_or (sym at.2 ∙ asked) in
       subst (λ (e : Data). Tells rules n line e) (same_value k d at seen) (subst (λ (q : ℕ × List ℕ). Tells rules q.0 q.1 at.1) question at.4)
 
-  reply_settled : S → IsSettled output
+  reply_settled : S → AreAllDecided output
   reply_settled all k d seen =
       let few : k < length (questions 1 lines) = omega (arith, as_many, slice_get_within (lines_of output) k seen.0 seen.1) in
       let at = told_at rules S (questions 1 lines) told.0 k told.2 few in
@@ -378,7 +378,7 @@ module _ (rules : Rules) where
         unnamed = λ k n line d asked none seen. unnamed_true rules n line d none (reply_told rules ⊥ lines output told k n line d asked seen);
       }
 
-  pub settled : (lines : List (List ℕ)) (answers : List Answer) → length lines < 2 ^ 64 → AnswersLines rules lines answers → status_of_counts (with_answers no_lines answers) ≡ 0 → IsSettled (answers_text 1 answers)
+  pub settled : (lines : List (List ℕ)) (answers : List Answer) → length lines < 2 ^ 64 → AnswersLines rules lines answers → status_of_counts (with_answers no_lines answers) ≡ 0 → AreAllDecided (answers_text 1 answers)
   settled lines answers few are fine =
       let counts = with_answers no_lines answers in
       let all = none_open no_lines answers (status_open counts.bounded counts.refused fine) in

@@ -1,8 +1,8 @@
 -- What is written for an input: a report for each line that isn't passed over, in order.
 use Rattle.std.specs.Prelude.{ℕ, ◌≡◌, ◌⊎◌, ◌+◌, ◌-◌, ◌<◌, ◌^◌, true, false, List, [], ◌∷◌, ◌++◌, length, Option, None, Some, Result, Ok, Err, All, ⊤, ◌==◌, ◌&&◌, if◌then◌else◌, codes}
 use Rattle.memory.specs.declared.OutOfMemory.{OutOfMemory}
-use Rattle.board.specs.Grids.{Grid}
-use Rattle.board.specs.Positions.{Position}
+use Rattle.board.specs.Shapes.{ShapeModel}
+use Rattle.board.specs.Boards.{BoardModel}
 use Rattle.byte_streams.specs.Streams.{SourceState, SinkState, Change, from_to}
 use Rattle.byte_streams.specs.Source.{Takes}
 use Rattle.byte_streams.specs.Sink.{Puts, PutsBeginning}
@@ -13,7 +13,7 @@ use Rattle.batch_lines.specs.declared.words.EntryFault.{EntryFault}
 use Rattle.batch_lines.specs.declared.lines.LineKind.{LineKind}
 use Rattle.batch_lines.specs.declared.lines.LineKind.TheVariants.{PassedOver, Within, TooLong}
 use Rattle.batch_lines.specs.declared.lines.TheConstants.{INPUT_LIMIT}
-use Rattle.reports.specs.Readings.{AreSmall}
+use Rattle.reports.specs.Readings.{HasSmallNumbers}
 use Rattle.reports.specs.Reports.{outcome_data, refused_data, report_text}
 use Rattle.outcomes.specs.declared.outcome.Ending.{Ending}
 use Rattle.outcomes.specs.Outcomes.{Task}
@@ -26,21 +26,21 @@ use Rattle.batch_runs.specs.declared.faults.LinesFault.TheVariants.{Read, Write,
 
 -- the shape of the boards, what is asked of each, and which outcomes it may be answered by; no outcome tells a want of memory before the first step
 pub record Rules : Type 1 where
-  pub grid : Grid
-  pub task : Position → Task
-  pub allows : Position → Option Ending → Type 0
+  pub grid : ShapeModel
+  pub task : BoardModel → Task
+  pub allows : BoardModel → Option Ending → Type 0
 
 -- each outcome that a board may be answered by answers what is asked of it
 abbrev pub IsTruthful : Rules → Type 0
-IsTruthful rules = (b : Position) (outcome : Ending) → rules.allows b (Some outcome) → EndAnswers (rules.task b) outcome
+IsTruthful rules = (b : BoardModel) (outcome : Ending) → rules.allows b (Some outcome) → EndAnswers (rules.task b) outcome
 
 -- who solves a board gives an ending that it may be answered by, or tells a want of memory where that may be answered
-abbrev pub MayGive : Rules → Position → Result Solved OutOfMemory → Type 0
+abbrev pub MayGive : Rules → BoardModel → Result Solved OutOfMemory → Type 0
 MayGive rules b (Ok solved) = rules.allows b (Some solved.ending)
 MayGive rules b (Err refused) = rules.allows b None
 
 -- each of these boards may be answered by the ending beside it
-abbrev pub AreAllowed : Rules → List (Position × Solved) → Type 0
+abbrev pub AreAllowed : Rules → List (BoardModel × Solved) → Type 0
 AreAllowed rules ready = All (λ it. rules.allows it.0 (Some it.1.ending)) ready
 
 -- ---- the answer to a line
@@ -54,8 +54,8 @@ pub data Answer : Type 0 where
 -- a line to be read is refused by its first fault, or it is answered by an outcome that is allowed for its board and whose numbers a report can tell, or refused by V3 where a want of memory before the first step is allowed for it
 pub data AnswersEntry (rules : Rules) (line : List ℕ) : Answer → Type 0 where
   by_fault : (fault : EntryFault) → IsFirstEntryFault rules.grid line fault → AnswersEntry rules line (refused (entry_code fault))
-  by_outcome : (id : List ℕ) (b : Position) (outcome : Ending) → IsEntry rules.grid line id b → rules.allows b (Some outcome) → AreSmall outcome → AnswersEntry rules line (answered id outcome)
-  by_want : (id : List ℕ) (b : Position) → IsEntry rules.grid line id b → rules.allows b None → AnswersEntry rules line (refused (codes "V3"))
+  by_outcome : (id : List ℕ) (b : BoardModel) (outcome : Ending) → IsEntry rules.grid line id b → rules.allows b (Some outcome) → HasSmallNumbers outcome → AnswersEntry rules line (answered id outcome)
+  by_want : (id : List ℕ) (b : BoardModel) → IsEntry rules.grid line id b → rules.allows b None → AnswersEntry rules line (refused (codes "V3"))
 
 -- the answer to a line of this kind with these bytes
 abbrev pub AnswersKind : Rules → LineKind → List ℕ → Answer → Type 0
@@ -113,7 +113,7 @@ abbrev pub no_lines : Summary
 no_lines = record { optimal = 0; unsolvable = 0; bounded = 0; refused = 0 }
 
 -- one line more can be counted
-pub record HasRoom (counts : Summary) : Type 0 where
+pub record CanCountMore (counts : Summary) : Type 0 where
   pub optimal : counts.optimal + 1 < 2 ^ 64
   pub unsolvable : counts.unsolvable + 1 < 2 ^ 64
   pub bounded : counts.bounded + 1 < 2 ^ 64

@@ -3,7 +3,7 @@ use Rattle.std.specs.Prelude.{ℕ, ◌≡◌, ◌+◌, ◌^◌, ◌<◌, List, [
 use Rattle.byte_streams.specs.Streams.{SourceState, Change, from_to}
 use Rattle.byte_streams.specs.declared.source.ReadFailed.{ReadFailed}
 use Rattle.batch_lines.specs.Lines.{kind_of}
-use Rattle.batch_lines.specs.Readings.{Reading, CountsTaken, IsJudged}
+use Rattle.batch_lines.specs.Readings.{LineReaderModel, CountsTaken, IsJudged}
 use Rattle.batch_lines.specs.declared.lines.Line.{Line}
 use Rattle.batch_lines.specs.declared.lines.LineKind.TheVariants.{PassedOver}
 use Rattle.batch_runs.specs.Batches.{AreRead, AreAll, TakesSome, LosesLine, IsReadable}
@@ -13,7 +13,7 @@ abbrev pub IsPassedOver : List ℕ → Type 0
 IsPassedOver line = kind_of line ≡ PassedOver
 
 -- these are the lines that were read whole since the input began, and the reader has counted them and their bytes
-pub record HasRead (source : Change SourceState) (reader : Reading) (lines : List (List ℕ)) : Type 0 where
+pub record HasRead (source : Change SourceState) (reader : LineReaderModel) (lines : List (List ℕ)) : Type 0 where
   pub read : AreRead source.before.left source.after.left lines
   pub some : TakesSome source
   pub counted : CountsTaken source (from_to 0 reader.taken)
@@ -35,7 +35,7 @@ abbrev pub LosesFirst : Change SourceState → Type 0
 LosesFirst source = (lines : List (List ℕ)) × LosesLine source lines × All IsPassedOver lines
 
 -- the first line that isn't passed over is found, with its number, and its bytes are kept where they are to be read; or there is none; or it is lost
-abbrev pub FindsLine : Change SourceState → Reading → Result (Option Line) ReadFailed → Type 0
+abbrev pub FindsLine : Change SourceState → LineReaderModel → Result (Option Line) ReadFailed → Type 0
 FindsLine source reader (Ok None) = IsReadable source × PassesAll source
 FindsLine source reader (Ok (Some line)) =
     IsReadable source
@@ -43,5 +43,5 @@ FindsLine source reader (Ok (Some line)) =
 FindsLine source reader (Err failure) = LosesFirst source
 
 -- some bytes are taken, from the front, and the search ends so
-abbrev pub SeeksFirst : Change SourceState → Reading → Result (Option Line) ReadFailed → Type 0
+abbrev pub SeeksFirst : Change SourceState → LineReaderModel → Result (Option Line) ReadFailed → Type 0
 SeeksFirst source reader result = TakesSome source × FindsLine source reader result

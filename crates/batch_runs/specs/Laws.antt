@@ -9,8 +9,8 @@ use Rattle.batch_runs.specs.declared.faults.LinesFault.TheVariants.{Write}
 use Rattle.batch_runs.specs.Batches.{Rules, Answer, AnswersLines, LosesLine, ReportsLines, answers_text}
 
 -- a line of an input within the limit is lost only where the source has failed
-abbrev pub LinesAreLostToFailures : Type 0
-LinesAreLostToFailures =
+abbrev pub BatchLinesAreLostToFailures : Type 0
+BatchLinesAreLostToFailures =
     (source : Change SourceState) (lines : List (List ℕ)) (input : List ℕ) → source.before.left ≡ Some input → length input ≤ INPUT_LIMIT → LosesLine source lines → source.after.has_failed ≡ true
 
 -- where the input is known and the output was empty, a run that ends well leaves an answer to each line, and nothing else

@@ -1,8 +1,8 @@
 -- The words of the main theorem: what the lines of an input ask, and what a line of the output says.
 use Rattle.std.specs.Prelude.{ℕ, ◌≡◌, ◌+◌, ◌⊎◌, List, [], ◌∷◌, slice_get, Bool, not, if◌then◌else◌, Option, Some, codes}
 use Rattle.serde_json.specs.Data.{Data}
-use Rattle.board.specs.Grids.{Grid}
-use Rattle.board.specs.Positions.{Position}
+use Rattle.board.specs.Shapes.{ShapeModel}
+use Rattle.board.specs.Boards.{BoardModel}
 use Rattle.board.specs.Plans.{Leads, IsLeast, NothingBelow}
 use Rattle.board.specs.declared.moves.Move.{Move}
 use Rattle.batch_lines.specs.Lines.{lines_of, without_return, is_passed_over, kind_of}
@@ -32,11 +32,11 @@ abbrev pub IsQuestion : List (List ℕ) → ℕ → ℕ → List ℕ → Type 0
 IsQuestion lines k n line = slice_get (questions 1 lines) k ≡ Some (n, line)
 
 -- the line names this board by this id: it is within the limit, and its words are the id and the tiles of the board
-abbrev pub Names : Grid → List ℕ → List ℕ → Position → Type 0
+abbrev pub Names : ShapeModel → List ℕ → List ℕ → BoardModel → Type 0
 Names grid line id b = (kind_of line ≡ Within) × IsEntry grid (without_return line) id b
 
 -- the line has a fault with this code: it is too long, or this is the first fault of its words
-abbrev pub HasFault : Grid → List ℕ → List ℕ → Type 0
+abbrev pub HasFault : ShapeModel → List ℕ → List ℕ → Type 0
 HasFault grid line code =
     ((kind_of line ≡ TooLong) × (code ≡ codes "E12")) ⊎ ((kind_of line ≡ Within) × ((fault : EntryFault) × IsFirstEntryFault grid (without_return line) fault × (code ≡ entry_code fault)))
 
@@ -77,5 +77,5 @@ abbrev pub SaysRefused : Data → List ℕ → ℕ → Type 0
 SaysRefused d code n = HasStatus d (codes "refused") × SaysText d (codes "fault") code × SaysNumber d (codes "line") n
 
 -- each line of the output says a least plan, or that there is none
-abbrev pub IsSettled : List ℕ → Type 0
-IsSettled output = (k : ℕ) (d : Data) → IsReply output k d → HasStatus d (codes "optimal") ⊎ HasStatus d (codes "unsolvable")
+abbrev pub AreAllDecided : List ℕ → Type 0
+AreAllDecided output = (k : ℕ) (d : Data) → IsReply output k d → HasStatus d (codes "optimal") ⊎ HasStatus d (codes "unsolvable")

@@ -1,11 +1,12 @@
 //! Who answers boards, and what is answered of each line.
 
-ghost use Rattle.std.specs.Prelude.{ℕ, ◌≡◌, ◌≢◌, List, All, IfOk, IfSome, OnErr, Some, None, string_bytes};
-ghost use Rattle.board.specs.Positions.{Position};
+ghost use Rattle.std.specs.Prelude.{ℕ, ◌≡◌, ◌≢◌, List, All, IfOk, IfSome, OnErr, Some, None};
+ghost use Rattle.std.specs.Prelude.{string_bytes};
+ghost use Rattle.board.specs.Boards.{BoardModel};
 ghost use Rattle.batch_lines.specs.Words.{IsEntry};
 ghost use Rattle.batch_lines.specs.declared.lines.LineKind.TheVariants.{PassedOver};
 ghost use Rattle.batch_runs.specs.Batches.{Rules, Answer, AnswersKind, AnswersEntry};
-ghost use Rattle.batch_runs.specs.Batches.{HasRoom, MayGive, AreAllowed};
+ghost use Rattle.batch_runs.specs.Batches.{CanCountMore, MayGive, AreAllowed};
 ghost use Rattle.batch_runs.specs.Batches.{answer_text, with_answer};
 
 use crate::batch::Summary;
@@ -32,7 +33,7 @@ pub trait Solver: Ruled {
     ghost is_callable: { Self → Type 0 };
 
     // Whether a board's stats are those of the search that gave its ending.
-    ghost has_stats: { Self → Position → Solved → Type 0 };
+    ghost has_stats: { Self → BoardModel → Solved → Type 0 };
 
     /// The shape of the boards.
     fn shape(&self) -> Shape
@@ -56,7 +57,7 @@ pub trait Solver: Ruled {
     /// Takes the figures of a line's board, which is answered, with the id of the line. No contract
     /// says what becomes of them.
     fn observe(&self, id: &str, solved: &Solved)
-        requires { (line : List ℕ) × (b : Position) × IsEntry (Self.rules self.now).grid line id.now b
+        requires { (line : List ℕ) × (b : BoardModel) × IsEntry (Self.rules self.now).grid line id.now b
             × has_stats self.now b solved.now };
 }
 
@@ -102,7 +103,7 @@ impl<'a, A: Solver> Answerer<'a, A> {
         held: &[u8],
         summary: Summary,
     ) -> Result<(String, Summary), NoReport>
-        requires room { HasRoom summary }
+        requires room { CanCountMore summary }
         requires kind { line.kind ≢ PassedOver }
         ensures same { self.new ≡ self.old }
         ensures report { IfOk result (λ report. (answer : Answer)
@@ -125,7 +126,7 @@ impl<'a, A: Solver> Answerer<'a, A> {
         held: &[u8],
         summary: Summary,
     ) -> Result<(String, Summary), NoReport>
-        requires { HasRoom summary }
+        requires { CanCountMore summary }
         ensures same { self.new ≡ self.old }
         ensures report { IfOk result (λ report. (answer : Answer)
             × AnswersEntry (A.rules self.old) bytes.now answer

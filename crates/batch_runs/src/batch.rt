@@ -3,7 +3,7 @@
 ghost use Rattle.std.specs.Prelude.{◌≡◌, ◌⊎◌, OnOk};
 ghost use Rattle.byte_streams.specs.Streams.{change};
 ghost use Rattle.byte_streams.specs.Sink.{Writes};
-ghost use Rattle.batch_runs.specs.Batches.{ReportsLines, IsTruthful, HasRoom, HasFailed};
+ghost use Rattle.batch_runs.specs.Batches.{ReportsLines, IsTruthful, CanCountMore, HasFailed};
 ghost use Rattle.batch_runs.specs.Batches.{with_outcome, with_refused};
 ghost use Rattle.batch_runs.specs.Headline.{IsTrueRun};
 
@@ -26,7 +26,7 @@ pub struct Summary {
 impl Summary {
     // One line more that was answered so.
     pub(crate) fn with_outcome(self, outcome: &Ending) -> Self
-        requires { HasRoom self }
+        requires { CanCountMore self }
         ensures { result ≡ with_outcome self outcome.now }
     {
         let mut counts = self;
@@ -40,7 +40,7 @@ impl Summary {
 
     // One line more that was refused.
     pub(crate) fn with_refused(self) -> Self
-        requires { HasRoom self }
+        requires { CanCountMore self }
         ensures { result ≡ with_refused self }
     {
         let mut counts = self;

@@ -1,8 +1,8 @@
 //! The laws of batches: each is the contract of a function that does nothing.
 
 ghost use Rattle.batch_runs.specs.Headline.{AnswersTellTheTruth, BeginningsAreOfLines};
-ghost use Rattle.batch_runs.specs.Headline.{OutputsTellTheTruth, BeginningsTellTheTruth};
-ghost use Rattle.batch_runs.specs.Laws.{LinesAreLostToFailures, OutputsAreAnswers};
+ghost use Rattle.batch_runs.specs.Headline.{BatchOutputsTellTheTruth, BeginningsTellTheTruth};
+ghost use Rattle.batch_runs.specs.Laws.{BatchLinesAreLostToFailures, OutputsAreAnswers};
 ghost use Rattle.batch_runs.specs.Laws.{FailedWritesAreTold};
 
 use crate::answering::Ruled;
@@ -17,7 +17,7 @@ pub fn answers_tell_the_truth<A: Ruled>(asked: &A)
 /// Where the input is known and the output was empty, what a run that ends well leaves there tells
 /// the truth of the input's lines.
 pub fn outputs_tell_the_truth<A: Ruled>(asked: &A)
-    ensures { OutputsTellTheTruth (A.rules asked.now) }
+    ensures { BatchOutputsTellTheTruth (A.rules asked.now) }
 {
     let _ = asked;
 }
@@ -48,5 +48,5 @@ pub fn runs_are_told<A: Ruled>(asked: &A)
 /// A line of an input within the limit is lost only where the source has failed.
 #[tactic(auto, using(crate::proofs::BatchLemmas::lost))]
 pub fn lines_are_lost_to_failures()
-    ensures { LinesAreLostToFailures }
+    ensures { BatchLinesAreLostToFailures }
 {}

@@ -35,9 +35,9 @@ pub struct Setup {
 }
 
 impl Model for Setup {
-    ghost use Rattle.batch_runs.specs.Setups.{SetupState, IsSetup};
+    ghost use Rattle.batch_runs.specs.Setups.{SetupModel, IsSetup};
 
-    ghost Value = { SetupState };
+    ghost Value = { SetupModel };
 
     ghost view = { λ s. record {
       goal = s.goal;

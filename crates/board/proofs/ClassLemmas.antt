@@ -6,10 +6,10 @@ use Rattle.std.proofs.lemmas.List.Sums.{sum_by-cons, sum_by-set}
 use Rattle.std.proofs.lemmas.List.Edits.{swap_is}
 use Rattle.board.specs.declared.moves.Move.{Move}
 use Rattle.board.specs.declared.moves.Move.TheVariants.{U, L, R, D}
-use Rattle.board.specs.Grids.{Grid, cell_count}
+use Rattle.board.specs.Shapes.{ShapeModel, cell_count}
 use Rattle.board.specs.Neighbours.{LiesTowards}
-use Rattle.board.specs.Positions.{Position, IsBoard, blank_of}
-use Rattle.board.specs.CostRules.{CostRule}
+use Rattle.board.specs.Boards.{BoardModel, IsBoard, blank_of}
+use Rattle.board.specs.Weights.{WeightsModel}
 use Rattle.board.specs.Moves.{Moves}
 use Rattle.board.specs.Plans.{Leads}
 use Rattle.board.specs.Classes.{inversions, taxicab, SameClass}
@@ -100,14 +100,14 @@ exchanged (x ∷ xs) (suc i) (suc j) d i_in j_in apart different =
     omega arith
 
 -- a move brings the blank one cell nearer to a cell, or one farther
-one_nearer : (grid : Grid) (m : Move) (from to cell : ℕ) → LiesTowards grid m from to → (taxicab grid from cell + taxicab grid to cell) % 2 ≡ 1
+one_nearer : (grid : ShapeModel) (m : Move) (from to cell : ℕ) → LiesTowards grid m from to → (taxicab grid from cell + taxicab grid to cell) % 2 ≡ 1
 one_nearer grid U from to cell lies = omega arith
 one_nearer grid L from to cell lies = omega arith
 one_nearer grid R from to cell lies = omega arith
 one_nearer grid D from to cell lies = omega arith
 
 -- a move changes the parity of the inversions
-inversions_turn : (rule : CostRule) (b : Position) → IsBoard b → (m : Move) (b' : Position) (c : ℕ) → Moves rule b m b' c → (inversions b.tiles + inversions b'.tiles) % 2 ≡ 1
+inversions_turn : (rule : WeightsModel) (b : BoardModel) → IsBoard b → (m : Move) (b' : BoardModel) (c : ℕ) → Moves rule b m b' c → (inversions b.tiles + inversions b'.tiles) % 2 ≡ 1
 unfolding swapped
 inversions_turn rule b board m b' c moves =
     let i = blank_of b in
@@ -123,7 +123,7 @@ inversions_turn rule b board m b' c moves =
     rw is turned
 
 -- a move keeps the class
-pub same_class_kept : (rule : CostRule) (b : Position) → IsBoard b → (m : Move) (b' : Position) (c : ℕ) → Moves rule b m b' c → (q : Position) → SameClass b q ↔ SameClass b' q
+pub same_class_kept : (rule : WeightsModel) (b : BoardModel) → IsBoard b → (m : Move) (b' : BoardModel) (c : ℕ) → Moves rule b m b' c → (q : BoardModel) → SameClass b q ↔ SameClass b' q
 same_class_kept rule b board m b' c moves q =
     let below = cell_below b.grid m (blank_of b) moves.cell moves.towards in
     let turned = inversions_turn rule b board m b' c moves in
@@ -133,11 +133,11 @@ same_class_kept rule b board m b' c moves q =
     let far : taxicab b'.grid (blank_of b') (blank_of q) ≡ taxicab b.grid moves.cell (blank_of q) = rw (grid, blank) refl in
     ((λ same. omega arith), (λ same. omega arith))
 
-pub same_class_self : (b : Position) → SameClass b b
+pub same_class_self : (b : BoardModel) → SameClass b b
 same_class_self b = omega arith
 
 -- where a plan leads from b to q they are in one class
-pub same_class_led : (rule : CostRule) (b : Position) → IsBoard b → (plan : List Move) (q : Position) (k : ℕ) → Leads rule b plan q k → SameClass b q
+pub same_class_led : (rule : WeightsModel) (b : BoardModel) → IsBoard b → (plan : List Move) (q : BoardModel) (k : ℕ) → Leads rule b plan q k → SameClass b q
 same_class_led rule b board [] q k leads = rw leads.0 (same_class_self b)
 same_class_led rule b board (m ∷ plan) q k leads =
     (same_class_kept rule b board m leads.0 leads.1 leads.3 q).1 (same_class_led rule leads.0 (moved_board rule b board m leads.0 leads.1 leads.3) plan q leads.2 leads.4)

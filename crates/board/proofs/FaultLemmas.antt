@@ -5,15 +5,15 @@ use Rattle.std.proofs.lemmas.Bool.{cases_order, cases_eq}
 use Rattle.std.proofs.lemmas.List.{take_more, take_all, get_or-take, get_or_default}
 use Rattle.std.proofs.lemmas.List.Elements.{All-more, Contains-append_left, Contains-append_right, Contains-append_cases}
 use Rattle.std.proofs.lemmas.List.Quantifiers.{all_pairs_push}
-use Rattle.board.specs.Grids.{Grid, IsShape, cell_count}
-use Rattle.board.specs.Positions.{IsBoard}
-use Rattle.board.specs.Faults.{IsFirstPlace, IsFirstFault}
+use Rattle.board.specs.Shapes.{ShapeModel, IsShape, cell_count}
+use Rattle.board.specs.Boards.{IsBoard}
+use Rattle.board.specs.Faults.{IsFirstTilesPlace, IsFirstTilesFault}
 use Rattle.board.specs.declared.faults.TilesFault.{TilesFault}
 use Rattle.board.specs.declared.faults.TilesFault.TheVariants.{WrongCount, TileOutOfRange, TileRepeated}
 use Rattle.board.proofs.TileLemmas.{same_place}
 
 -- the numbers before a place are different tiles, and they are the ones that are marked
-pub record IsSeen (grid : Grid) (numbers : List ℕ) (place : ℕ) (seen : List Bool) : Type 0 where
+pub record IsSeen (grid : ShapeModel) (numbers : List ℕ) (place : ℕ) (seen : List Bool) : Type 0 where
   pub in_range : All (λ number. number < cell_count grid) (take place numbers)
   pub different : AllPairs (λ x y. x ≢ y) (take place numbers)
   pub marked : (tile : ℕ) → tile < 25 → (get_or seen tile false ≡ true) ↔ Contains (take place numbers) tile
@@ -25,7 +25,7 @@ no_mark (suc n) zero = refl
 no_mark (suc n) (suc tile) = no_mark n tile
 
 -- nothing is seen before the first place
-pub IsSeen-none : (grid : Grid) (numbers : List ℕ) → IsSeen grid numbers 0 (replicate 25 false)
+pub IsSeen-none : (grid : ShapeModel) (numbers : List ℕ) → IsSeen grid numbers 0 (replicate 25 false)
 IsSeen-none grid numbers = record {
   in_range = λ k d h. absurd (omega arith);
   different = λ i j d below within. absurd (omega arith);
@@ -38,7 +38,7 @@ contains_one x y (zero, inside, is) = is
 contains_one x y (suc k, inside, is) = absurd (omega arith)
 
 -- one more tile that was not seen before
-pub IsSeen-more : (grid : Grid) (numbers : List ℕ) (place : ℕ) (seen : List Bool) (tile : ℕ) → IsSeen grid numbers place seen → place < length numbers → tile ≡ get_or numbers place 0 → tile < cell_count grid → cell_count grid ≤ 25 → get_or seen tile false ≡ false → IsSeen grid numbers (place + 1) (set seen tile true)
+pub IsSeen-more : (grid : ShapeModel) (numbers : List ℕ) (place : ℕ) (seen : List Bool) (tile : ℕ) → IsSeen grid numbers place seen → place < length numbers → tile ≡ get_or numbers place 0 → tile < cell_count grid → cell_count grid ≤ 25 → get_or seen tile false ≡ false → IsSeen grid numbers (place + 1) (set seen tile true)
 IsSeen-more grid numbers place seen tile before within at below few new =
     let more : take (place + 1) numbers ≡ take place numbers ++ tile ∷ [] = take_more numbers place 0 within ∙ ap (λ (x : ℕ). take place numbers ++ x ∷ []) (sym at) in
     let tile_in : tile < length seen = omega (arith, before.marks) in
@@ -62,7 +62,7 @@ IsSeen-more grid numbers place seen tile before within at below few new =
     }
 
 -- numbers of which none is at fault are the tiles of a board
-pub all_seen : (grid : Grid) (numbers : List ℕ) (place : ℕ) (seen : List Bool) → IsShape grid → length numbers ≡ cell_count grid → length numbers ≤ place → IsSeen grid numbers place seen → IsBoard (record { grid = grid; tiles = numbers })
+pub all_seen : (grid : ShapeModel) (numbers : List ℕ) (place : ℕ) (seen : List Bool) → IsShape grid → length numbers ≡ cell_count grid → length numbers ≤ place → IsSeen grid numbers place seen → IsBoard (record { grid = grid; tiles = numbers })
 all_seen grid numbers place seen sides one_each end before =
     let all : take place numbers ≡ numbers = take_all place numbers end in
     record {
@@ -81,18 +81,18 @@ not_repeated numbers place within different (k, inside, is) =
     omega arith
 
 -- the tiles of a board have no fault
-pub no_fault : (grid : Grid) (numbers : List ℕ) → IsBoard (record { grid = grid; tiles = numbers }) → (fault : TilesFault) → IsFirstFault grid numbers fault → ⊥
+pub no_fault : (grid : ShapeModel) (numbers : List ℕ) → IsBoard (record { grid = grid; tiles = numbers }) → (fault : TilesFault) → IsFirstTilesFault grid numbers fault → ⊥
 no_fault grid numbers board WrongCount first = first board.one_each
 no_fault grid numbers board (TileOutOfRange place) first = omega (arith, first.1, board.in_range place 0 first.0.within)
 no_fault grid numbers board (TileRepeated place) first = not_repeated numbers place first.0.within board.different first.2
 
 -- before a first place no number is out of range, and none repeated
-clean_range : (grid : Grid) (numbers : List ℕ) (p q : ℕ) → IsFirstPlace grid numbers q → p < q → get_or numbers p 0 < cell_count grid
+clean_range : (grid : ShapeModel) (numbers : List ℕ) (p q : ℕ) → IsFirstTilesPlace grid numbers q → p < q → get_or numbers p 0 < cell_count grid
 clean_range grid numbers p q first before =
     let inside : p < length (take q numbers) = omega (arith, first.within, length-take q numbers) in
     subst (λ (x : ℕ). x < cell_count grid) (get_or-take q numbers p 0 before) (first.in_range p 0 inside)
 
-clean_repeats : (grid : Grid) (numbers : List ℕ) (p q : ℕ) → IsFirstPlace grid numbers q → p < q → Contains (take p numbers) (get_or numbers p 0) → ⊥
+clean_repeats : (grid : ShapeModel) (numbers : List ℕ) (p q : ℕ) → IsFirstTilesPlace grid numbers q → p < q → Contains (take p numbers) (get_or numbers p 0) → ⊥
 clean_repeats grid numbers p q first before (k, inside, is) =
     let early : k < p = omega (arith, inside, length-take p numbers) in
     let there : p < length (take q numbers) = omega (arith, first.within, length-take q numbers) in
@@ -102,22 +102,22 @@ clean_repeats grid numbers p q first before (k, inside, is) =
     first.different k p 0 early there at
 
 -- the place at which a fault is, and that it is one
-IsFaulty : Grid → List ℕ → ℕ → Type 0
+IsFaulty : ShapeModel → List ℕ → ℕ → Type 0
 IsFaulty grid numbers place = (cell_count grid ≤ get_or numbers place 0) ⊎ Contains (take place numbers) (get_or numbers place 0)
 
-faulty_is_not_before : (grid : Grid) (numbers : List ℕ) (p q : ℕ) → IsFirstPlace grid numbers q → IsFaulty grid numbers p → p < q → ⊥
+faulty_is_not_before : (grid : ShapeModel) (numbers : List ℕ) (p q : ℕ) → IsFirstTilesPlace grid numbers q → IsFaulty grid numbers p → p < q → ⊥
 unfolding IsFaulty
 faulty_is_not_before grid numbers p q first (inl range) before = omega (arith, clean_range grid numbers p q first before)
 faulty_is_not_before grid numbers p q first (inr repeated) before = clean_repeats grid numbers p q first before repeated
 
-one_place : (grid : Grid) (numbers : List ℕ) (p q : ℕ) → IsFirstPlace grid numbers p → IsFaulty grid numbers p → IsFirstPlace grid numbers q → IsFaulty grid numbers q → q ≡ p
+one_place : (grid : ShapeModel) (numbers : List ℕ) (p q : ℕ) → IsFirstTilesPlace grid numbers p → IsFaulty grid numbers p → IsFirstTilesPlace grid numbers q → IsFaulty grid numbers q → q ≡ p
 one_place grid numbers p q first fault second fault' =
     let not_before = faulty_is_not_before grid numbers p q second fault in
     let not_after = faulty_is_not_before grid numbers q p first fault' in
     ⊎_elim (λ (e : q ≡ p). e) (λ (h : (q < p) ⊎ (p < q)). ⊎_elim (λ (l : q < p). absurd (not_after l)) (λ (l : p < q). absurd (not_before l)) h) (cases_order q p)
 
 -- there is one first fault
-pub one_fault : (grid : Grid) (numbers : List ℕ) (fault fault' : TilesFault) → IsFirstFault grid numbers fault → IsFirstFault grid numbers fault' → fault' ≡ fault
+pub one_fault : (grid : ShapeModel) (numbers : List ℕ) (fault fault' : TilesFault) → IsFirstTilesFault grid numbers fault → IsFirstTilesFault grid numbers fault' → fault' ≡ fault
 unfolding IsFaulty
 one_fault grid numbers WrongCount WrongCount first second = refl
 one_fault grid numbers WrongCount (TileOutOfRange q) first second = absurd (first second.0.one_each)

@@ -3,9 +3,9 @@ use Rattle.std.proofs.Common.{◌≡◌, ℕ, zero, suc, ◌+◌, ◌-◌, ◌<�
 use Rattle.std.specs.List.{range_with_len}
 use Rattle.std.proofs.lemmas.List.FromFn.{length-range_with_len, get_or-range_with_len}
 use Rattle.std.proofs.lemmas.List.{length-replicate, get_or-replicate, replicate_more}
-use Rattle.board.specs.Grids.{Grid, IsShape, cell_count}
-use Rattle.board.specs.Positions.{IsBoard, goal_of}
-use Rattle.board.specs.CostRules.{IsCostRule, unit_rule, face_rule}
+use Rattle.board.specs.Shapes.{ShapeModel, IsShape, cell_count}
+use Rattle.board.specs.Boards.{IsBoard, goal_of}
+use Rattle.board.specs.Weights.{AreWeights, unit_rule, face_rule}
 use Rattle.board.specs.Storage.{IsStored}
 use Rattle.board.specs.CostStorage as cost
 use Rattle.board.proofs.NeighbourLemmas.{cells_above}
@@ -15,7 +15,7 @@ counts : (n t d : ℕ) → t < n → get_or (range_with_len 0 n) t d ≡ t
 counts n t d h = get_or-range_with_len 0 n t d h ∙ omega arith
 
 -- the goal is a board
-pub goal_board : (grid : Grid) → IsShape grid → IsBoard (goal_of grid)
+pub goal_board : (grid : ShapeModel) → IsShape grid → IsBoard (goal_of grid)
 goal_board grid sides =
     let n : ℕ = cell_count grid in
     let counted = length-range_with_len 0 n in
@@ -27,14 +27,14 @@ goal_board grid sides =
     }
 
 -- what counts up to the cells in memory is the goal
-pub goal_stored : (grid : Grid) (n : ℕ) (tiles : List ℕ) → IsShape grid → n ≡ cell_count grid → tiles ≡ range_with_len 0 n ++ replicate (25 - n) 0 → IsStored (record { shape = grid; tiles = tiles })
+pub goal_stored : (grid : ShapeModel) (n : ℕ) (tiles : List ℕ) → IsShape grid → n ≡ cell_count grid → tiles ≡ range_with_len 0 n ++ replicate (25 - n) 0 → IsStored (record { shape = grid; tiles = tiles })
 goal_stored grid n tiles sides same all =
     let whole : tiles ≡ range_with_len 0 (cell_count grid) ++ replicate (25 - cell_count grid) 0 = all ∙ ap (λ (k : ℕ). range_with_len 0 k ++ replicate (25 - k) 0) same in
     let parts = filled_parts (cell_count grid) (range_with_len 0 (cell_count grid)) tiles (length-range_with_len 0 (cell_count grid)) whole in
     record { board = subst IsBoard (λ i. record { grid = grid; tiles = sym parts.0 i }) (goal_board grid sides); unused = parts.1 }
 
 -- face cost is a cost rule
-pub face_is_rule : (grid : Grid) → IsShape grid → cell_count grid ≤ 25 → IsCostRule (face_rule grid)
+pub face_is_rule : (grid : ShapeModel) → IsShape grid → cell_count grid ≤ 25 → AreWeights (face_rule grid)
 face_is_rule grid sides few =
     let n : ℕ = cell_count grid in
     record {
@@ -45,11 +45,11 @@ face_is_rule grid sides few =
       high = λ tile below. omega (arith, counts n tile 0 below);
     }
 
-pub face_stored : (grid : Grid) (n : ℕ) (entries : List ℕ) → IsShape grid → n ≡ cell_count grid → n ≤ 25 → entries ≡ range_with_len 0 n ++ replicate (25 - n) 0 → cost.IsStored (record { shape = grid; weights = entries })
+pub face_stored : (grid : ShapeModel) (n : ℕ) (entries : List ℕ) → IsShape grid → n ≡ cell_count grid → n ≤ 25 → entries ≡ range_with_len 0 n ++ replicate (25 - n) 0 → cost.IsStored (record { shape = grid; weights = entries })
 face_stored grid n entries sides same few all =
     let whole : entries ≡ range_with_len 0 (cell_count grid) ++ replicate (25 - cell_count grid) 0 = all ∙ ap (λ (k : ℕ). range_with_len 0 k ++ replicate (25 - k) 0) same in
     let parts = filled_parts (cell_count grid) (range_with_len 0 (cell_count grid)) entries (length-range_with_len 0 (cell_count grid)) whole in
-    record { rule = subst IsCostRule (λ i. record { grid = grid; weights = sym parts.0 i }) (face_is_rule grid sides (omega arith)); unused = parts.1 }
+    record { rule = subst AreWeights (λ i. record { grid = grid; weights = sym parts.0 i }) (face_is_rule grid sides (omega arith)); unused = parts.1 }
 
 -- a 0 and then ones
 ones : ℕ → List ℕ
@@ -71,7 +71,7 @@ unfolding ones
 length-ones n some = omega (arith, length-replicate {A = ℕ} (n - 1) 1)
 
 -- unit cost is a cost rule
-unit_is_rule : (grid : Grid) → IsShape grid → IsCostRule (unit_rule grid)
+unit_is_rule : (grid : ShapeModel) → IsShape grid → AreWeights (unit_rule grid)
 unfolding ones
 unit_is_rule grid sides =
     let n : ℕ = cell_count grid in
@@ -93,9 +93,9 @@ ones_more tile entries some within filled =
     ∙ filled_more 25 tile (0 ∷ replicate (tile - 1) 1) 1 (length-ones tile some) within
     ∙ ap (λ (ws : List ℕ). (0 ∷ ws) ++ replicate (25 - (tile + 1)) 0) (replicate_more (tile - 1) 1 ∙ ap (λ (k : ℕ). replicate k 1) (sym next))
 
-pub unit_stored : (grid : Grid) (n : ℕ) (entries : List ℕ) → IsShape grid → n ≡ cell_count grid → entries ≡ (0 ∷ replicate (n - 1) 1) ++ replicate (25 - n) 0 → cost.IsStored (record { shape = grid; weights = entries })
+pub unit_stored : (grid : ShapeModel) (n : ℕ) (entries : List ℕ) → IsShape grid → n ≡ cell_count grid → entries ≡ (0 ∷ replicate (n - 1) 1) ++ replicate (25 - n) 0 → cost.IsStored (record { shape = grid; weights = entries })
 unfolding ones
 unit_stored grid n entries sides same all =
     let whole : entries ≡ (unit_rule grid).weights ++ replicate (25 - cell_count grid) 0 = all ∙ ap (λ (k : ℕ). (0 ∷ replicate (k - 1) 1) ++ replicate (25 - k) 0) same in
     let parts = filled_parts (cell_count grid) (unit_rule grid).weights entries (length-ones (cell_count grid) (cells_above grid sides)) whole in
-    record { rule = subst IsCostRule (λ i. record { grid = grid; weights = sym parts.0 i }) (unit_is_rule grid sides); unused = parts.1 }
+    record { rule = subst AreWeights (λ i. record { grid = grid; weights = sym parts.0 i }) (unit_is_rule grid sides); unused = parts.1 }

@@ -9,8 +9,8 @@ use Rattle.std.proofs.lemmas.Int.Digits.{number_lt, number_more}
 use Rattle.std.proofs.lemmas.List.{take_more, take_all, drop_all, drop-set}
 use Rattle.std.proofs.lemmas.List.Elements.{All-weaker, All-take, recursion_from_All}
 use Rattle.std.proofs.lemmas.Nat.{div-mul-add, mod-mul-add, mul-le}
-use Rattle.board.specs.Grids.{Grid, IsShape, cell_count}
-use Rattle.board.specs.Positions.{Position, IsBoard}
+use Rattle.board.specs.Shapes.{ShapeModel, IsShape, cell_count}
+use Rattle.board.specs.Boards.{BoardModel, IsBoard}
 use Rattle.board.specs.Keys.{packed_number, key_of, HasKey, Precedes}
 use Rattle.board.specs.Digits.{digits_of}
 
@@ -79,28 +79,28 @@ packed_in_order (x ∷ xs) (y ∷ ys) same low high =
     )
 
 -- there are at most 25 cells
-cells_few : (grid : Grid) → IsShape grid → cell_count grid ≤ 25
+cells_few : (grid : ShapeModel) → IsShape grid → cell_count grid ≤ 25
 cells_few grid sides = mul-le grid.rows grid.cols 5 5 sides.rows_high sides.cols_high
 
 -- the tiles of a board are below 32
-pub tiles_small : (b : Position) → IsBoard b → All (λ x. x < 32) b.tiles
+pub tiles_small : (b : BoardModel) → IsBoard b → All (λ x. x < 32) b.tiles
 tiles_small b is =
     let few : cell_count b.grid ≤ 25 = cells_few b.grid is.sides in
     All-weaker (λ t. t < cell_count b.grid) (λ t. t < 32) (λ t h. omega arith) b.tiles is.in_range
 
 -- a key has no more digits than there are cells
-pub key_of-lt : (b : Position) → IsBoard b → key_of b < 32 ^ cell_count b.grid
+pub key_of-lt : (b : BoardModel) → IsBoard b → key_of b < 32 ^ cell_count b.grid
 key_of-lt b is = rw (← is.one_each) (packed_number-lt b.tiles (recursion_from_All (λ x. x < 32) b.tiles (tiles_small b is)))
 
 -- the digits of a board's key are its tiles
-pub digits_of-key : (b : Position) → IsBoard b → digits_of (cell_count b.grid) (key_of b) ≡ b.tiles
+pub digits_of-key : (b : BoardModel) → IsBoard b → digits_of (cell_count b.grid) (key_of b) ≡ b.tiles
 digits_of-key b is =
     let whole : take (cell_count b.grid) b.tiles ≡ b.tiles = take_all (cell_count b.grid) b.tiles (omega arith) in
     let digits : digits_of (cell_count b.grid) (packed_number (take (cell_count b.grid) b.tiles)) ≡ take (cell_count b.grid) b.tiles = digits_of-packed (cell_count b.grid) b.tiles (omega arith) (tiles_small b is) in
     rw whole at digits
 
 -- the first tiles of a board leave room for the last
-pub key_fits : (b : Position) (i : ℕ) → IsBoard b → i < cell_count b.grid → packed_number (take i b.tiles) < 2 ^ 120
+pub key_fits : (b : BoardModel) (i : ℕ) → IsBoard b → i < cell_count b.grid → packed_number (take i b.tiles) < 2 ^ 120
 key_fits b i is before =
     let few : cell_count b.grid ≤ 25 = cells_few b.grid is.sides in
     let small : packed_number (take i b.tiles) < 32 ^ length (take i b.tiles) = packed_number-lt (take i b.tiles) (recursion_from_All (λ x. x < 32) (take i b.tiles) (All-take (λ x. x < 32) i b.tiles (tiles_small b is))) in
@@ -125,7 +125,7 @@ digits_step n zero rest tiles some before within = absurd (omega arith)
 digits_step n (suc cell) rest tiles some before within = let e : suc cell - 1 ≡ cell = omega arith in rw e (digits_more n cell rest tiles before within)
 
 -- the tiles that are read from the key of a board are the board's
-pub read_back : (grid : Grid) (key n m : ℕ) (read : List ℕ) (b : Position) → HasKey grid key b → n ≡ cell_count grid → m ≡ cell_count grid → take n read ≡ digits_of n key → record { grid = grid; tiles = take m read } ≡ b
+pub read_back : (grid : ShapeModel) (key n m : ℕ) (read : List ℕ) (b : BoardModel) → HasKey grid key b → n ≡ cell_count grid → m ≡ cell_count grid → take n read ≡ digits_of n key → record { grid = grid; tiles = take m read } ≡ b
 read_back grid key n m read b has counted again digits =
     let sides : cell_count b.grid ≡ cell_count grid = ap cell_count has.sides in
     let own : digits_of (cell_count b.grid) (key_of b) ≡ b.tiles = digits_of-key b has.board in
@@ -134,7 +134,7 @@ read_back grid key n m read b has counted again digits =
     λ i. record { grid = sym has.sides i; tiles = tiles i }
 
 -- a key names one board of a grid
-pub same_board : (a b : Position) → IsBoard a → IsBoard b → a.grid ≡ b.grid → key_of a ≡ key_of b → a ≡ b
+pub same_board : (a b : BoardModel) → IsBoard a → IsBoard b → a.grid ≡ b.grid → key_of a ≡ key_of b → a ≡ b
 same_board a b is is' sides same =
     let one : digits_of (cell_count a.grid) (key_of a) ≡ a.tiles = digits_of-key a is in
     let other : digits_of (cell_count b.grid) (key_of b) ≡ b.tiles = digits_of-key b is' in

@@ -6,10 +6,10 @@ use Rattle.std.proofs.lemmas.Bool.{eqb-false, ne_eqb, cond-false, cases_lt}
 use Rattle.std.proofs.lemmas.Nat.{div-mul-add, mod-mul-add, mul-le}
 use Rattle.board.specs.declared.moves.Move.{Move}
 use Rattle.board.specs.declared.moves.Move.TheVariants.{U, L, R, D}
-use Rattle.board.specs.Grids.{Grid, IsShape, cell_count, row_of, column_of}
+use Rattle.board.specs.Shapes.{ShapeModel, IsShape, cell_count, row_of, column_of}
 use Rattle.board.specs.Neighbours.{LiesTowards, neighbour}
-use Rattle.board.specs.Positions.{Position, IsBoard, blank_of}
-use Rattle.board.specs.CostRules.{CostRule}
+use Rattle.board.specs.Boards.{BoardModel, IsBoard, blank_of}
+use Rattle.board.specs.Weights.{WeightsModel}
 use Rattle.board.specs.Moves.{Moves, successor_at, successor}
 use Rattle.board.proofs.TileLemmas.{has_cell}
 
@@ -34,7 +34,7 @@ one_less : (r : ℕ) → r ≢ 0 → (p : ℕ) × (r ≡ p + 1)
 one_less zero ne = absurd (ne refl)
 one_less (suc p) ne = (p, omega arith)
 
-module _ (grid : Grid) (from to : ℕ) (some : 0 < grid.cols) (inside : from < cell_count grid) where
+module _ (grid : ShapeModel) (from to : ℕ) (some : 0 < grid.cols) (inside : from < cell_count grid) where
   -- a cell in row r and column k
   placed : (r k : ℕ) → k < grid.cols → to ≡ r * grid.cols + k → (row_of grid to ≡ r) × (column_of grid to ≡ k)
   placed r k low is = (row_at grid.cols r k to low is, column_at grid.cols r k to low is)
@@ -105,21 +105,21 @@ module _ (grid : Grid) (from to : ℕ) (some : 0 < grid.cols) (inside : from < c
       let is : from + grid.cols ≡ to = omega (arith, lies.2) in
       cond-false _ _ _ (ne_eqb _ _ ne) ∙ ap Some is
 
-some_step : (rule : CostRule) (b : Position) (o : Option ℕ) (b' : Position) (c : ℕ) → option_map (successor_at rule b) o ≡ Some (b', c) → (cell : ℕ) × (o ≡ Some cell) × (successor_at rule b cell ≡ (b', c))
+some_step : (rule : WeightsModel) (b : BoardModel) (o : Option ℕ) (b' : BoardModel) (c : ℕ) → option_map (successor_at rule b) o ≡ Some (b', c) → (cell : ℕ) × (o ≡ Some cell) × (successor_at rule b cell ≡ (b', c))
 some_step rule b None b' c is = cc
 some_step rule b (Some cell) b' c is = (cell, refl, cc)
 
 -- the neighbour that is computed is the cell that lies there
-pub neighbour_lies : (grid : Grid) (m : Move) (from to : ℕ) → from < cell_count grid → (neighbour grid m from ≡ Some to) ↔ LiesTowards grid m from to
+pub neighbour_lies : (grid : ShapeModel) (m : Move) (from to : ℕ) → from < cell_count grid → (neighbour grid m from ≡ Some to) ↔ LiesTowards grid m from to
 neighbour_lies grid m from to inside =
     let cols : 0 < grid.cols = pos_of_ne-zero (λ none. let e = ap (λ x. grid.rows * x) none in omega arith) in (lies_from grid from to cols inside m, lies_to grid from to cols inside m)
 
 -- a grid has a cell
-pub cells_above : (grid : Grid) → IsShape grid → 0 < cell_count grid
+pub cells_above : (grid : ShapeModel) → IsShape grid → 0 < cell_count grid
 cells_above grid sides = omega (arith, mul-le 2 2 grid.rows grid.cols sides.rows_low sides.cols_low)
 
 -- what is computed of a move is what it does
-pub successor_moves : (rule : CostRule) (b : Position) (m : Move) (b' : Position) (c : ℕ) → IsBoard b → (successor rule b m ≡ Some (b', c)) ↔ Moves rule b m b' c
+pub successor_moves : (rule : WeightsModel) (b : BoardModel) (m : Move) (b' : BoardModel) (c : ℕ) → IsBoard b → (successor rule b m ≡ Some (b', c)) ↔ Moves rule b m b' c
 successor_moves rule b m b' c board =
     let cols : 0 < b.grid.cols = omega (arith, board.sides.cols_low) in
     let blank = has_cell b board 0 (cells_above b.grid board.sides) in (

@@ -8,9 +8,9 @@ use Rattle.std.proofs.lemmas.List.Sums.{position_or_len_is, fails_before_first}
 use Rattle.std.proofs.lemmas.List.Edits.{swap_is}
 use Rattle.std.proofs.lemmas.Option.{slice_get-get_or}
 use Rattle.board.specs.declared.moves.Move.{Move}
-use Rattle.board.specs.Grids.{cell_count}
-use Rattle.board.specs.Positions.{Position, IsBoard, blank_of}
-use Rattle.board.specs.CostRules.{CostRule, weight_of}
+use Rattle.board.specs.Shapes.{cell_count}
+use Rattle.board.specs.Boards.{BoardModel, IsBoard, blank_of}
+use Rattle.board.specs.Weights.{WeightsModel, weight_of}
 use Rattle.board.specs.Neighbours.{neighbour}
 use Rattle.board.specs.Moves.{Moves, blank_exchange, successor_at, successor}
 use Rattle.board.specs.Storage.{position_in, IsStored}
@@ -20,7 +20,7 @@ use Rattle.board.proofs.MoveLemmas.{exchange_board}
 use Rattle.board.proofs.NeighbourLemmas.{cells_above, successor_moves}
 
 -- the blank stands on a cell
-pub blank_stands : (b : Position) → IsBoard b → (blank_of b < cell_count b.grid) × (get_or b.tiles (blank_of b) 0 ≡ 0)
+pub blank_stands : (b : BoardModel) → IsBoard b → (blank_of b < cell_count b.grid) × (get_or b.tiles (blank_of b) 0 ≡ 0)
 blank_stands b board = has_cell b board 0 (cells_above b.grid board.sides)
 
 -- the first 0 in memory is the blank, though zeros lie behind the tiles
@@ -40,21 +40,21 @@ blank_found inside found stored is =
     is ∙ rw (lt-ltb _ _ within) (ap Some first)
 
 -- the blank's cell holds a 0
-pub blank_holds : (b : Position) → IsBoard b → slice_get b.tiles (blank_of b) ≡ Some 0
+pub blank_holds : (b : BoardModel) → IsBoard b → slice_get b.tiles (blank_of b) ≡ Some 0
 blank_holds b board =
     let stands = blank_stands b board in
     let e = board.one_each in
     slice_get-get_or b.tiles (blank_of b) 0 (omega (arith, stands.0)) ∙ ap Some stands.1
 
 -- another cell holds a tile
-pub tile_above : (b : Position) (cell : ℕ) → IsBoard b → cell < cell_count b.grid → cell ≢ blank_of b → 0 < get_or b.tiles cell 0
+pub tile_above : (b : BoardModel) (cell : ℕ) → IsBoard b → cell < cell_count b.grid → cell ≢ blank_of b → 0 < get_or b.tiles cell 0
 tile_above b cell board within other =
     let stands = blank_stands b board in
     let e = board.one_each in
     let apart : get_or b.tiles cell 0 ≢ 0 = λ none. other (same_place b.tiles board.different cell (blank_of b) (omega arith) (omega (arith, stands.0)) (none ∙ sym stands.1)) in
     omega arith
 
-pub tile_below : (b : Position) (cell : ℕ) → IsBoard b → cell < cell_count b.grid → get_or b.tiles cell 0 < cell_count b.grid
+pub tile_below : (b : BoardModel) (cell : ℕ) → IsBoard b → cell < cell_count b.grid → get_or b.tiles cell 0 < cell_count b.grid
 tile_below b cell board within = board.in_range cell 0 (omega (arith, board.one_each))
 
 -- what the two writes of a step leave is stored, and it is the board after the exchange
@@ -94,7 +94,7 @@ module _ (inside : Inside) (from to : ℕ) (stored : IsStored inside) (at : from
   }
 
   -- the answer is the successor
-  pub answer_is : (rule : CostRule) (m : Move) (cost : ℕ) → Some to ≡ neighbour inside.shape m from → cost ≡ weight_of rule (get_or inside.tiles to 0) → Some (position_in after, cost) ≡ successor rule (position_in inside) m
+  pub answer_is : (rule : WeightsModel) (m : Move) (cost : ℕ) → Some to ≡ neighbour inside.shape m from → cost ≡ weight_of rule (get_or inside.tiles to 0) → Some (position_in after, cost) ≡ successor rule (position_in inside) m
   answer_is rule m cost found paid =
       let tile : get_or (take (cell_count inside.shape) inside.tiles) to 0 ≡ get_or inside.tiles to 0 = get_or-take (cell_count inside.shape) inside.tiles to 0 to_below in
       let here : Some to ≡ neighbour inside.shape m (blank_of (position_in inside)) = found ∙ ap (neighbour inside.shape m) at in
@@ -102,6 +102,6 @@ module _ (inside : Inside) (from to : ℕ) (stored : IsStored inside) (at : from
       (λ i. Some (position_after i, worth i)) ∙ ap (option_map (successor_at rule (position_in inside))) here
 
 -- the successor is the move
-pub moves_from : (rule : CostRule) (b : Position) (m : Move) (answer : Option (Position × ℕ)) → IsBoard b → answer ≡ successor rule b m → (b' : Position) (c : ℕ) → (answer ≡ Some (b', c)) ↔ Moves rule b m b' c
+pub moves_from : (rule : WeightsModel) (b : BoardModel) (m : Move) (answer : Option (BoardModel × ℕ)) → IsBoard b → answer ≡ successor rule b m → (b' : BoardModel) (c : ℕ) → (answer ≡ Some (b', c)) ↔ Moves rule b m b' c
 moves_from rule b m answer board is b' c =
     let moves = successor_moves rule b m b' c board in ((λ e. moves.0 (sym is ∙ e)), (λ h. is ∙ moves.1 h))

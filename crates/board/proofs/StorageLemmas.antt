@@ -7,7 +7,7 @@ use Rattle.std.proofs.lemmas.Bool.Decides.{Decides-at, Decides-like}
 use Rattle.std.proofs.lemmas.List.{set_at, take_at, drop_at, map-id}
 use Rattle.std.proofs.lemmas.List.FromFn.{map-range_with_len_more}
 use Rattle.std.proofs.lemmas.Slice.Eq.{bytes_eq-Decides}
-use Rattle.board.specs.Grids.{cell_count}
+use Rattle.board.specs.Shapes.{cell_count}
 use Rattle.board.specs.Equality.{grid_eq, grids_Decide}
 use Rattle.board.specs.Storage.{position_in, storage_of, IsStored, storage_of-position_in}
 use Rattle.board.specs.CostStorage.{rule_in}

@@ -10,8 +10,8 @@ use Rattle.std.proofs.lemmas.List.Elements.{recursion_from_All, All-from_get_or}
 use Rattle.std.proofs.lemmas.List.Sums.{position_or_len_is, fails_before_first, passes_at_first}
 use Rattle.std.proofs.lemmas.Map.Steps.{length-le_from_distinct_below}
 use Rattle.std.proofs.lemmas.Map.Made.{IsDistinct-from_AllPairs}
-use Rattle.board.specs.Grids.{cell_count}
-use Rattle.board.specs.Positions.{Position, IsBoard, cell_of}
+use Rattle.board.specs.Shapes.{cell_count}
+use Rattle.board.specs.Boards.{BoardModel, IsBoard, cell_of}
 
 -- no two places of a list hold one number
 pub same_place : (xs : List ℕ) → AllPairs (λ x y. x ≢ y) xs → (i j : ℕ) → i < length xs → j < length xs → get_or xs i 0 ≡ get_or xs j 0 → i ≡ j
@@ -45,7 +45,7 @@ at_swap xs i j k i_in j_in =
     (λ (ne : k ≢ i). ⊎_elim (λ (e : k ≡ j). let a : across i j k ≡ i = grind (arith, nat_tests) in rw (a, e) s.1) (λ (other : k ≢ j). let a : across i j k ≡ k = grind (arith, nat_tests) in rw a (s.2 k ne other)) (cases_eq k j))
     (cases_eq k i)
 
-pub cell_is : (b : Position) → AllPairs (λ x y. x ≢ y) b.tiles → (x t : ℕ) → x < length b.tiles → get_or b.tiles x 0 ≡ t → cell_of b t ≡ x
+pub cell_is : (b : BoardModel) → AllPairs (λ x y. x ≢ y) b.tiles → (x t : ℕ) → x < length b.tiles → get_or b.tiles x 0 ≡ t → cell_of b t ≡ x
 cell_is b different x t x_in e =
     position_or_len_is (λ y. y == t) b.tiles x 0 (omega arith)
     (λ k lt. ne_eqb _ _ (λ same. let at : k ≡ x = same_place b.tiles different k x (omega arith) x_in (same ∙ sym e) in absurd (omega arith)))
@@ -66,7 +66,7 @@ in_list (x ∷ xs) n q all found =
     (or_cases (eqb q x) (list_any (eqb q) xs) found)
 
 -- each number below the count of cells stands on a cell
-pub has_cell : (b : Position) → IsBoard b → (t : ℕ) → t < cell_count b.grid → (cell_of b t < cell_count b.grid) × (get_or b.tiles (cell_of b t) 0 ≡ t)
+pub has_cell : (b : BoardModel) → IsBoard b → (t : ℕ) → t < cell_count b.grid → (cell_of b t < cell_count b.grid) × (get_or b.tiles (cell_of b t) 0 ≡ t)
 has_cell b board t t_in =
     ⊎_elim
     (λ (found : cell_of b t < length b.tiles). (subst (λ n. cell_of b t < n) board.one_each found, eqb-true _ _ (passes_at_first (λ x. x == t) b.tiles 0 found)))

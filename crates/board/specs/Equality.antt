@@ -8,20 +8,20 @@ use Rattle.std.proofs.lemmas.Bool.Decides.{Decides-and, Decides-like, Decides-eq
 use Rattle.std.proofs.lemmas.Slice.Eq.{bytes_eq-Decides}
 use Rattle.board.specs.declared.moves.Move.{Move}
 use Rattle.board.specs.declared.moves.Move.TheVariants.{U, L, R, D}
-use Rattle.board.specs.Grids.{Grid}
-use Rattle.board.specs.Positions.{Position}
-use Rattle.board.specs.CostRules.{CostRule}
+use Rattle.board.specs.Shapes.{ShapeModel}
+use Rattle.board.specs.Boards.{BoardModel}
+use Rattle.board.specs.Weights.{WeightsModel}
 
 -- they have the same rows and columns
-abbrev pub grid_eq : Grid → Grid → Bool
+abbrev pub grid_eq : ShapeModel → ShapeModel → Bool
 grid_eq a b = a.rows == b.rows && a.cols == b.cols
 
 -- they have the same grid and the same tiles
-abbrev pub position_eq : Position → Position → Bool
+abbrev pub position_eq : BoardModel → BoardModel → Bool
 position_eq a b = grid_eq a.grid b.grid && bytes_eq a.tiles b.tiles
 
 -- they have the same grid and the same weights
-abbrev pub rule_eq : CostRule → CostRule → Bool
+abbrev pub rule_eq : WeightsModel → WeightsModel → Bool
 rule_eq a b = grid_eq a.grid b.grid && bytes_eq a.weights b.weights
 
 -- a number for each move
@@ -58,20 +58,20 @@ moves_Decide a b = Decides-like _ same (ap number_of) (Decides-eqb _ _)
 pub move_eq-laws : IsEquivalence move_eq
 move_eq-laws = decided move_eq moves_Decide
 
-pub grids_Decide : (a b : Grid) → Decides (grid_eq a b) (a ≡ b)
-grids_Decide a b = Decides-like _ same (λ e. (ap (λ (g : Grid). g.rows) e, ap (λ (g : Grid). g.cols) e)) (Decides-and _ _ (Decides-eqb _ _) (Decides-eqb _ _))
+pub grids_Decide : (a b : ShapeModel) → Decides (grid_eq a b) (a ≡ b)
+grids_Decide a b = Decides-like _ same (λ e. (ap (λ (g : ShapeModel). g.rows) e, ap (λ (g : ShapeModel). g.cols) e)) (Decides-and _ _ (Decides-eqb _ _) (Decides-eqb _ _))
   where
     same : (a.rows ≡ b.rows) × (a.cols ≡ b.cols) → a ≡ b
     same p = λ i. record { rows = p.0 i; cols = p.1 i }
 
-pub positions_Decide : (a b : Position) → Decides (position_eq a b) (a ≡ b)
-positions_Decide a b = Decides-like _ same (λ e. (ap (λ (p : Position). p.grid) e, ap (λ (p : Position). p.tiles) e)) (Decides-and _ _ (grids_Decide _ _) (bytes_eq-Decides _ _))
+pub positions_Decide : (a b : BoardModel) → Decides (position_eq a b) (a ≡ b)
+positions_Decide a b = Decides-like _ same (λ e. (ap (λ (p : BoardModel). p.grid) e, ap (λ (p : BoardModel). p.tiles) e)) (Decides-and _ _ (grids_Decide _ _) (bytes_eq-Decides _ _))
   where
     same : (a.grid ≡ b.grid) × (a.tiles ≡ b.tiles) → a ≡ b
     same p = λ i. record { grid = p.0 i; tiles = p.1 i }
 
-pub rules_Decide : (a b : CostRule) → Decides (rule_eq a b) (a ≡ b)
-rules_Decide a b = Decides-like _ same (λ e. (ap (λ (p : CostRule). p.grid) e, ap (λ (p : CostRule). p.weights) e)) (Decides-and _ _ (grids_Decide _ _) (bytes_eq-Decides _ _))
+pub rules_Decide : (a b : WeightsModel) → Decides (rule_eq a b) (a ≡ b)
+rules_Decide a b = Decides-like _ same (λ e. (ap (λ (p : WeightsModel). p.grid) e, ap (λ (p : WeightsModel). p.weights) e)) (Decides-and _ _ (grids_Decide _ _) (bytes_eq-Decides _ _))
   where
     same : (a.grid ≡ b.grid) × (a.weights ≡ b.weights) → a ≡ b
     same p = λ i. record { grid = p.0 i; weights = p.1 i }

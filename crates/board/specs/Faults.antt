@@ -1,6 +1,6 @@
 -- Why sides are no shape, numbers no board and a list no weights, and the code of each reason.
 use Rattle.std.specs.Prelude.{ℕ, ◌≡◌, ◌≢◌, ◌-◌, ◌<◌, ◌≤◌, List, length, take, All, AllPairs, Contains, slice_index, codes}
-use Rattle.board.specs.Grids.{Grid, cell_count}
+use Rattle.board.specs.Shapes.{ShapeModel, cell_count}
 use Rattle.board.specs.declared.faults.ShapeFault.{ShapeFault}
 use Rattle.board.specs.declared.faults.ShapeFault.TheVariants as shape
 use Rattle.board.specs.declared.faults.TilesFault.{TilesFault}
@@ -11,28 +11,28 @@ use Rattle.board.specs.declared.faults.BoardFault.{BoardFault}
 use Rattle.board.specs.declared.faults.BoardFault.TheVariants.{SideOutOfRange, WrongCount, TileOutOfRange, TileRepeated, WrongCountOfWeights, WeightOutOfRange}
 
 -- there are as many numbers as cells, and none before this place is at fault
-pub record IsFirstPlace (grid : Grid) (numbers : List ℕ) (place : ℕ) : Type 0 where
+pub record IsFirstTilesPlace (grid : ShapeModel) (numbers : List ℕ) (place : ℕ) : Type 0 where
   pub one_each : length numbers ≡ cell_count grid
   pub within : place < length numbers
   pub in_range : All (λ number. number < cell_count grid) (take place numbers)
   pub different : AllPairs (λ x y. x ≢ y) (take place numbers)
 
 -- the first fault of numbers that should be the tiles of a board: their count, else that of the first offending place
-abbrev pub IsFirstFault : Grid → List ℕ → TilesFault → Type 0
-IsFirstFault grid numbers tiles.WrongCount = length numbers ≢ cell_count grid
-IsFirstFault grid numbers (tiles.TileOutOfRange place) = IsFirstPlace grid numbers place × (cell_count grid ≤ slice_index numbers place)
-IsFirstFault grid numbers (tiles.TileRepeated place) =
-    IsFirstPlace grid numbers place × (slice_index numbers place < cell_count grid) × Contains (take place numbers) (slice_index numbers place)
+abbrev pub IsFirstTilesFault : ShapeModel → List ℕ → TilesFault → Type 0
+IsFirstTilesFault grid numbers tiles.WrongCount = length numbers ≢ cell_count grid
+IsFirstTilesFault grid numbers (tiles.TileOutOfRange place) = IsFirstTilesPlace grid numbers place × (cell_count grid ≤ slice_index numbers place)
+IsFirstTilesFault grid numbers (tiles.TileRepeated place) =
+    IsFirstTilesPlace grid numbers place × (slice_index numbers place < cell_count grid) × Contains (take place numbers) (slice_index numbers place)
 
 -- there is a weight for each tile; the one at this place is 0, and none before it
-pub record IsFirstZero (grid : Grid) (listed : List ℕ) (place : ℕ) : Type 0 where
+pub record IsFirstZero (grid : ShapeModel) (listed : List ℕ) (place : ℕ) : Type 0 where
   pub one_each : length listed ≡ cell_count grid - 1
   pub within : place < length listed
   pub before : All (λ weight. 1 ≤ weight) (take place listed)
   pub zero : slice_index listed place ≡ 0
 
 -- the first fault of a list of weights, each below 256: their count, else the first 0
-abbrev pub IsFirstWeightsFault : Grid → List ℕ → WeightsFault → Type 0
+abbrev pub IsFirstWeightsFault : ShapeModel → List ℕ → WeightsFault → Type 0
 IsFirstWeightsFault grid listed weights.WrongCount = length listed ≢ cell_count grid - 1
 IsFirstWeightsFault grid listed (weights.WeightOutOfRange place) = IsFirstZero grid listed place
 

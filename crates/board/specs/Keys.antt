@@ -1,7 +1,7 @@
 -- Keys: a board as one number, 5 bits a cell, cell 0 highest.
 use Rattle.std.specs.Prelude.{ℕ, ◌≡◌, ◌⊎◌, ◌+◌, ◌*◌, ◌^◌, ◌<◌, List, [], ◌∷◌, length}
-use Rattle.board.specs.Grids.{Grid}
-use Rattle.board.specs.Positions.{Position, IsBoard}
+use Rattle.board.specs.Shapes.{ShapeModel}
+use Rattle.board.specs.Boards.{BoardModel, IsBoard}
 
 -- each number times 32 to the power of how many follow it, added up
 abbrev pub packed_number : List ℕ → ℕ
@@ -9,11 +9,11 @@ packed_number [] = 0
 packed_number (tile ∷ rest) = tile * 32 ^ length rest + packed_number rest
 
 -- the key of a board
-abbrev pub key_of : Position → ℕ
+abbrev pub key_of : BoardModel → ℕ
 key_of b = packed_number b.tiles
 
 -- this is a board of the grid, and the key is its key
-pub record HasKey (grid : Grid) (key : ℕ) (b : Position) : Type 0 where
+pub record HasKey (grid : ShapeModel) (key : ℕ) (b : BoardModel) : Type 0 where
   pub board : IsBoard b
   pub sides : b.grid ≡ grid
   pub packed : key_of b ≡ key

@@ -1,7 +1,7 @@
-pub mod Grids
+pub mod Shapes
 pub mod Neighbours
-pub mod Positions
-pub mod CostRules
+pub mod Boards
+pub mod Weights
 pub mod Letters
 pub mod Moves
 pub mod Plans

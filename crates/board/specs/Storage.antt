@@ -1,17 +1,17 @@
 -- How a board lies in memory: its tiles, and zeros behind them.
 use Rattle.std.specs.Prelude.{ℕ, ◌≡◌, List, take}
 use Rattle.std.proofs.Common.{ap}
-use Rattle.board.specs.Grids.{cell_count}
-use Rattle.board.specs.Positions.{Position, IsBoard}
+use Rattle.board.specs.Shapes.{cell_count}
+use Rattle.board.specs.Boards.{BoardModel, IsBoard}
 use Rattle.board.specs.Padding.{array_of, IsPadded, array_of-take}
 use Rattle.board.specs.declared.boards.Board.TheInside.{Inside}
 
 -- what readers see of the memory
-abbrev pub position_in : Inside → Position
+abbrev pub position_in : Inside → BoardModel
 position_in inside = record { grid = inside.shape; tiles = take (cell_count inside.shape) inside.tiles }
 
 -- the memory of a board
-abbrev pub storage_of : Position → Inside
+abbrev pub storage_of : BoardModel → Inside
 storage_of b = record { shape = b.grid; tiles = array_of 25 b.tiles }
 
 -- the memory holds a board, and the cells that it doesn't use are 0

@@ -1,24 +1,24 @@
 -- Worked rows: what the definitions say of boards that a reader can follow by hand.
 use Rattle.std.specs.Prelude.{ℕ, ◌≡◌, List, [], ◌∷◌, Some, None}
 use Rattle.board.specs.declared.moves.Move.TheVariants.{U, L, R, D}
-use Rattle.board.specs.Grids.{Grid}
+use Rattle.board.specs.Shapes.{ShapeModel}
 use Rattle.board.specs.Neighbours.{LiesTowards, neighbour}
-use Rattle.board.specs.Positions.{Position, blank_of, goal_of}
-use Rattle.board.specs.CostRules.{IsCostRule, listed_rule, unit_rule, face_rule}
+use Rattle.board.specs.Boards.{BoardModel, blank_of, goal_of}
+use Rattle.board.specs.Weights.{AreWeights, listed_rule, unit_rule, face_rule}
 use Rattle.board.specs.Moves.{successor}
 use Rattle.board.specs.Plans.{Leads}
 use Rattle.board.specs.Rows.{Proves}
 use Rattle.board.specs.Classes.{SameClass}
 use Rattle.board.specs.Keys.{key_of}
 
-abbrev pub grid_of : ℕ → ℕ → Grid
+abbrev pub grid_of : ℕ → ℕ → ShapeModel
 grid_of rows cols = record { rows = rows; cols = cols }
 
-abbrev pub two_by_two : ℕ → ℕ → ℕ → ℕ → Position
+abbrev pub two_by_two : ℕ → ℕ → ℕ → ℕ → BoardModel
 two_by_two a b c d = record { grid = grid_of 2 2; tiles = a ∷ b ∷ c ∷ d ∷ [] }
 
 -- 1 2 0 over 3 4 5 over 6 7 8
-abbrev pub two_right : Position
+abbrev pub two_right : BoardModel
 two_right = record { grid = grid_of 3 3; tiles = 1 ∷ 2 ∷ 0 ∷ 3 ∷ 4 ∷ 5 ∷ 6 ∷ 7 ∷ 8 ∷ [] }
 
 -- two moves to the left lead to the goal: at 2, or at 3 where tile t costs t
@@ -61,12 +61,12 @@ NoRow = Proves (unit_rule (grid_of 2 2)) [] blank_of (two_by_two 1 0 2 3) (goal_
 -- tile 1 may weigh 1 and 255, and neither 0 nor 256
 abbrev pub WeightsWithin : Type 0
 WeightsWithin =
-    IsCostRule (listed_rule (grid_of 2 2) (255 ∷ 1 ∷ 1 ∷ []))
-    × (¬ IsCostRule (listed_rule (grid_of 2 2) (256 ∷ 1 ∷ 1 ∷ [])))
-    × (¬ IsCostRule (listed_rule (grid_of 2 2) (0 ∷ 1 ∷ 1 ∷ [])))
+    AreWeights (listed_rule (grid_of 2 2) (255 ∷ 1 ∷ 1 ∷ []))
+    × (¬ AreWeights (listed_rule (grid_of 2 2) (256 ∷ 1 ∷ 1 ∷ [])))
+    × (¬ AreWeights (listed_rule (grid_of 2 2) (0 ∷ 1 ∷ 1 ∷ [])))
 
 -- two rows of three columns, so that rows exchanged with columns are seen
-abbrev pub two_by_three : List ℕ → Position
+abbrev pub two_by_three : List ℕ → BoardModel
 two_by_three tiles = record { grid = grid_of 2 3; tiles = tiles }
 
 -- cell 2 is the last of its row, and cell 5 is below it

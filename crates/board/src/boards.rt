@@ -3,13 +3,13 @@
 ghost use Rattle.std.specs.Prelude.{◌≡◌, ◌==◌, ◌<◌, ◌≤◌, ◌↔◌, ◌-◌, ◌*◌, ◌++◌, ℕ, Some};
 ghost use Rattle.std.specs.Prelude.{IsTrue, IsOk, IsSome, IsErrOf, OnOk, IfErr, IfOk, IfSome};
 ghost use Rattle.std.specs.Prelude.{length, take, replicate, position, slice_get};
-ghost use Rattle.board.specs.Grids.{cell_count};
-ghost use Rattle.board.specs.Positions.{Position, IsBoard, blank_of, goal_of};
+ghost use Rattle.board.specs.Shapes.{cell_count};
+ghost use Rattle.board.specs.Boards.{BoardModel, IsBoard, blank_of, goal_of};
 ghost use Rattle.board.specs.Keys.{key_of, HasKey};
 ghost use Rattle.board.specs.Digits.{digits_of};
 ghost use Rattle.board.specs.Padding.{IsPadded};
 ghost use Rattle.board.specs.Moves.{Moves, successor};
-ghost use Rattle.board.specs.Faults.{IsFirstFault};
+ghost use Rattle.board.specs.Faults.{IsFirstTilesFault};
 ghost use Rattle.board.specs.Classes.{inversions};
 ghost use Rattle.board.specs.declared.faults.TilesFault.{TilesFault};
 
@@ -33,9 +33,9 @@ pub struct Board {
 }
 
 impl Model for Board {
-    ghost use Rattle.board.specs.Positions.{Position};
+    ghost use Rattle.board.specs.Boards.{BoardModel};
 
-    ghost Value = { Position };
+    ghost Value = { BoardModel };
 
     ghost use Rattle.board.specs.Storage.{position_in, storage_of, IsStored};
     ghost use Rattle.board.specs.Storage.{storage_of-position_in};
@@ -94,7 +94,7 @@ impl Board {
         ensures accepted { IsOk result ↔ IsBoard (record { grid = shape; tiles = numbers.now }) }
         ensures value { IfOk result (λ b. b ≡ record { grid = shape; tiles = numbers.now }) }
         ensures fault { (fault : TilesFault) →
-            IsErrOf result fault ↔ IsFirstFault shape numbers.now fault }
+            IsErrOf result fault ↔ IsFirstTilesFault shape numbers.now fault }
     {
         if let Err(fault) = check_tiles(shape, numbers) {
             return Err(fault);
@@ -127,7 +127,7 @@ impl Board {
 
     /// The board of this shape with this key, or None where there is none.
     pub fn from_key(shape: Shape, key: u128) -> Option<Self>
-        ensures found { IsSome result ↔ ((b : Position) × HasKey shape key b) }
+        ensures found { IsSome result ↔ ((b : BoardModel) × HasKey shape key b) }
         ensures value { IfSome result (HasKey shape key) }
     {
         let tiles = last_digits(shape.cells(), key);
@@ -144,7 +144,7 @@ impl Board {
     /// The board of this shape with this key, which is known to be a board's: as `from_key`, without
     /// a test.
     pub fn of_key(shape: Shape, key: u128) -> Self
-        requires { (b : Position) × HasKey shape key b }
+        requires { (b : BoardModel) × HasKey shape key b }
         ensures { HasKey shape key result }
     {
         let digits = last_digits(shape.cells(), key);
@@ -200,7 +200,7 @@ impl Board {
     /// the board.
     pub fn step(&self, direction: Move, weights: &Weights) -> Option<(Board, u32)>
         requires { weights.now.grid ≡ self.now.grid }
-        ensures moves { (b : Position) (cost : ℕ) →
+        ensures moves { (b : BoardModel) (cost : ℕ) →
             (result ≡ Some (b, cost)) ↔ Moves weights.now self.now direction b cost }
         ensures value { result ≡ successor weights.now self.now direction }
         ensures board { IfSome result (λ moved. IsBoard moved.0) }
@@ -224,7 +224,7 @@ impl Board {
 // The first fault of numbers that should be the tiles of a board, if there is one.
 fn check_tiles(shape: Shape, numbers: &[u8]) -> Result<(), TilesFault>
     ensures sound { OnOk result (IsBoard (record { grid = shape; tiles = numbers.now })) }
-    ensures fault { IfErr result (IsFirstFault shape numbers.now) }
+    ensures fault { IfErr result (IsFirstTilesFault shape numbers.now) }
 {
     let count = shape.cells();
     if numbers.len() != count {

@@ -1,7 +1,7 @@
 //! The two classes of boards.
 
 ghost use Rattle.std.specs.Prelude.{◌≡◌, ◌<◌, ◌≤◌, ◌↔◌, ◌*◌, IsTrue, length, count_by, nat_lt};
-ghost use Rattle.board.specs.Grids.{IsShape, cell_count};
+ghost use Rattle.board.specs.Shapes.{IsShape, cell_count};
 ghost use Rattle.board.specs.Classes.{SameClass, inversions, taxicab};
 
 use crate::boards::Board;

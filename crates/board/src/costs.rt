@@ -3,8 +3,8 @@
 ghost use Rattle.std.specs.Prelude.{◌≡◌, ◌<◌, ◌≤◌, ◌↔◌, ◌-◌, ◌++◌, ◌∷◌, IsTrue, IsOk, IsErrOf};
 ghost use Rattle.std.specs.Prelude.{IfOk, IfErr, OnOk, length, replicate};
 ghost use Rattle.std.specs.List.{range_with_len};
-ghost use Rattle.board.specs.Grids.{cell_count};
-ghost use Rattle.board.specs.CostRules.{IsCostRule, listed_rule, unit_rule, face_rule, weight_of};
+ghost use Rattle.board.specs.Shapes.{cell_count};
+ghost use Rattle.board.specs.Weights.{AreWeights, listed_rule, unit_rule, face_rule, weight_of};
 ghost use Rattle.board.specs.Faults.{IsFirstWeightsFault};
 ghost use Rattle.board.specs.declared.faults.WeightsFault.{WeightsFault};
 
@@ -28,9 +28,9 @@ pub struct Weights {
 }
 
 impl Model for Weights {
-    ghost use Rattle.board.specs.CostRules.{CostRule};
+    ghost use Rattle.board.specs.Weights.{WeightsModel};
 
-    ghost Value = { CostRule };
+    ghost Value = { WeightsModel };
 
     ghost use Rattle.board.specs.CostStorage.{rule_in, storage_of, IsStored, storage_of-rule_in};
 
@@ -89,7 +89,7 @@ impl Weights {
     /// The weights of tiles 1, 2, .. in order, or the first fault: E13 where their count is not that
     /// of the tiles, else E14 at the first 0. All ones are unit cost, and 1, 2, .. are face cost.
     pub fn list(shape: Shape, listed: &[u8]) -> Result<Self, WeightsFault>
-        ensures accepted { IsOk result ↔ IsCostRule (listed_rule shape listed.now) }
+        ensures accepted { IsOk result ↔ AreWeights (listed_rule shape listed.now) }
         ensures value { IfOk result (λ rule. rule ≡ listed_rule shape listed.now) }
         ensures fault { (fault : WeightsFault) →
             IsErrOf result fault ↔ IsFirstWeightsFault shape listed.now fault }
@@ -104,7 +104,7 @@ impl Weights {
     /// The weights of tiles 1, 2, .. in order, as `list` takes them.
     pub fn listed(&self) -> &[u8]
         ensures value { self.now ≡ listed_rule self.now.grid result.now }
-        ensures rule { IsCostRule self.now }
+        ensures rule { AreWeights self.now }
     {
         &self.weights[1..self.shape.cells()]
     }
@@ -123,7 +123,7 @@ impl Weights {
     /// The shape of the boards whose tiles these are.
     pub fn shape(&self) -> Shape
         ensures value { result ≡ self.now.grid }
-        ensures rule { IsCostRule self.now }
+        ensures rule { AreWeights self.now }
     {
         self.shape
     }
@@ -131,7 +131,7 @@ impl Weights {
 
 // The first fault of a list of weights, if there is one.
 fn check_weights(shape: Shape, listed: &[u8]) -> Result<(), WeightsFault>
-    ensures sound { OnOk result (IsCostRule (listed_rule shape listed.now)) }
+    ensures sound { OnOk result (AreWeights (listed_rule shape listed.now)) }
     ensures fault { IfErr result (IsFirstWeightsFault shape listed.now) }
 {
     if listed.len() != shape.cells() - 1 {

@@ -1,7 +1,7 @@
 //! The four moves: their letters, their opposites, and the neighbours that they lead to.
 
 ghost use Rattle.std.specs.Prelude.{◌≡◌, ◌<◌, ◌%◌, ◌/◌, ◌↔◌, ℕ, IsTrue, Some};
-ghost use Rattle.board.specs.Grids.{cell_count};
+ghost use Rattle.board.specs.Shapes.{cell_count};
 ghost use Rattle.board.specs.Neighbours.{LiesTowards, neighbour, opposite};
 ghost use Rattle.board.specs.Letters.{letter_of, move_of_letter};
 

@@ -1,7 +1,7 @@
 //! Plans followed.
 
 ghost use Rattle.std.specs.Prelude.{◌≡◌, ◌↔◌, ℕ, Ok, Err};
-ghost use Rattle.board.specs.Positions.{Position};
+ghost use Rattle.board.specs.Boards.{BoardModel};
 ghost use Rattle.board.specs.Plans.{Leads, IsStuckAt};
 
 use crate::boards::Board;
@@ -12,7 +12,7 @@ use crate::moves::Move;
 /// blank would leave the board, counted from 0.
 pub fn follow(start: &Board, plan: &[Move], weights: &Weights) -> Result<(Board, u128), usize>
     requires { weights.now.grid ≡ start.now.grid }
-    ensures led { (b : Position) (cost : ℕ) →
+    ensures led { (b : BoardModel) (cost : ℕ) →
         (result ≡ Ok (b, cost)) ↔ Leads weights.now start.now plan.now b cost }
     ensures stuck { (place : ℕ) →
         (result ≡ Err place) ↔ IsStuckAt weights.now start.now plan.now place }

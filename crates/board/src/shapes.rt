@@ -1,7 +1,7 @@
 //! The sides of a board.
 
 ghost use Rattle.std.specs.Prelude.{◌≡◌, ◌≤◌, ◌↔◌, IsOk, IsTrue, IfOk, IfErr};
-ghost use Rattle.board.specs.Grids.{Grid, IsShape, cell_count};
+ghost use Rattle.board.specs.Shapes.{ShapeModel, IsShape, cell_count};
 ghost use Rattle.board.specs.declared.faults.ShapeFault.TheVariants.{SideOutOfRange};
 
 use crate::faults::ShapeFault;
@@ -15,7 +15,7 @@ pub struct Shape {
 }
 
 impl Model for Shape {
-    ghost Value = { Grid };
+    ghost Value = { ShapeModel };
 
     ghost view = { λ s. record { rows = s.rows; cols = s.cols } };
 

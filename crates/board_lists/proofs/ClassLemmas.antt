@@ -4,8 +4,8 @@ use Rattle.std.specs.Prelude.{◌↔◌, AllPairs, Contains}
 use Rattle.std.proofs.lemmas.Bool.{cases_lt, cases_eq}
 use Rattle.std.proofs.lemmas.List.{length_push, get_or_push, get_or_append_left, get_or_default}
 use Rattle.std.proofs.lemmas.List.Elements.{recursion_from_All}
-use Rattle.board.specs.Grids.{Grid, IsShape, cell_count}
-use Rattle.board.specs.Positions.{Position, IsBoard}
+use Rattle.board.specs.Shapes.{ShapeModel, IsShape, cell_count}
+use Rattle.board.specs.Boards.{BoardModel, IsBoard}
 use Rattle.board.specs.Classes.{SameClass}
 use Rattle.board.specs.Keys.{key_of}
 use Rattle.board.proofs.KeyLemmas.{packed_in_order, tiles_small}
@@ -16,15 +16,15 @@ use Rattle.board_lists.specs.Classes.{board_at}
 use Rattle.board_lists.proofs.DrawLemmas.{take_front}
 
 -- in how many orders the tiles of a board can be
-abbrev pub orders_of : Grid → ℕ
+abbrev pub orders_of : ShapeModel → ℕ
 orders_of grid = ways (cell_count grid) (cell_count grid)
 
 -- the place of a board
-abbrev pub place_of : Position → ℕ
+abbrev pub place_of : BoardModel → ℕ
 place_of b = rank_of (cell_count b.grid) b.tiles
 
 -- a place is that of a board
-pub listed_board : (grid : Grid) (k : ℕ) → IsShape grid → k < ways (cell_count grid) (cell_count grid) → IsBoard (board_at grid k)
+pub listed_board : (grid : ShapeModel) (k : ℕ) → IsShape grid → k < ways (cell_count grid) (cell_count grid) → IsBoard (board_at grid k)
 listed_board grid k sides low =
     let n = cell_count grid in
     let le : n ≤ n = omega arith in
@@ -32,28 +32,28 @@ listed_board grid k sides low =
     record { sides = sides; one_each = length-list_at n n k le; in_range = listing.in_range; different = listing.different }
 
 -- the board at a place, with its tiles read from the front of an array
-pub listed_front : (grid : Grid) (n m k : ℕ) (list behind : List ℕ) → IsShape grid → n ≡ cell_count grid → m ≡ n → k < ways (cell_count grid) (cell_count grid) → list ≡ list_at n m k → (IsBoard (record { grid = grid; tiles = take n (list ++ behind) })) × (take n (list ++ behind) ≡ list_at (cell_count grid) (cell_count grid) k)
+pub listed_front : (grid : ShapeModel) (n m k : ℕ) (list behind : List ℕ) → IsShape grid → n ≡ cell_count grid → m ≡ n → k < ways (cell_count grid) (cell_count grid) → list ≡ list_at n m k → (IsBoard (record { grid = grid; tiles = take n (list ++ behind) })) × (take n (list ++ behind) ≡ list_at (cell_count grid) (cell_count grid) k)
 listed_front grid n m k list behind sides is also low at =
     let board = listed_board grid k sides low in
     let whole : list ≡ list_at (cell_count grid) (cell_count grid) k = at ∙ (λ i. list_at (is i) ((also ∙ is) i) k) in
     let front : take n (list ++ behind) ≡ list = take_front n list behind (ap length whole ∙ board.one_each ∙ sym is) in
     (subst (λ (l : List ℕ). IsBoard (record { grid = grid; tiles = l })) (sym (front ∙ whole)) board, front ∙ whole)
 
-listing_of : (b : Position) → IsBoard b → IsListing (cell_count b.grid) b.tiles
+listing_of : (b : BoardModel) → IsBoard b → IsListing (cell_count b.grid) b.tiles
 listing_of b board = record { in_range = board.in_range; different = board.different }
 
 -- the place of the board that is at a place
-place_at : (grid : Grid) (k : ℕ) → k < orders_of grid → place_of (board_at grid k) ≡ k
+place_at : (grid : ShapeModel) (k : ℕ) → k < orders_of grid → place_of (board_at grid k) ≡ k
 place_at grid k low = rank_of-list_at (cell_count grid) (cell_count grid) k (omega arith) low
 
 -- a board has one of the places
-place_below : (b : Position) → IsBoard b → place_of b < orders_of b.grid
+place_below : (b : BoardModel) → IsBoard b → place_of b < orders_of b.grid
 place_below b board =
     let listing = listing_of b board in
     subst (λ (r : ℕ). rank_of (cell_count b.grid) b.tiles < ways (cell_count b.grid) r) board.one_each (rank_below (cell_count b.grid) b.tiles (below_in _ b.tiles listing) (differ_in _ b.tiles listing))
 
 -- two boards of a grid at one place are one board
-same_place : (a b : Position) → IsBoard a → IsBoard b → a.grid ≡ b.grid → place_of a ≡ place_of b → a ≡ b
+same_place : (a b : BoardModel) → IsBoard a → IsBoard b → a.grid ≡ b.grid → place_of a ≡ place_of b → a ≡ b
 same_place a b is is' sides same =
     let n = cell_count b.grid in
     let count : cell_count a.grid ≡ n = ap cell_count sides in
@@ -64,7 +64,7 @@ same_place a b is is' sides same =
     λ i. record { grid = sides i; tiles = tiles i }
 
 -- the board at the lower place has the smaller key
-key_order : (a b : Position) → IsBoard a → IsBoard b → a.grid ≡ b.grid → place_of a < place_of b → key_of a < key_of b
+key_order : (a b : BoardModel) → IsBoard a → IsBoard b → a.grid ≡ b.grid → place_of a < place_of b → key_of a < key_of b
 key_order a b is is' sides less =
     let n = cell_count b.grid in
     let count : cell_count a.grid ≡ n = ap cell_count sides in
@@ -107,12 +107,12 @@ pairs_longer R xs y pairs all i j d less j_in =
 -- ---- the class, board by board
 
 -- these are the boards of the goal's class at the places below k, in the order of their keys
-pub record AreBelow (goal : Position) (k : ℕ) (boards : List Position) : Type 0 where
-  pub each : (b : Position) → Contains boards b ↔ (IsOfClass goal b × (place_of b < k))
+pub record AreBelow (goal : BoardModel) (k : ℕ) (boards : List BoardModel) : Type 0 where
+  pub each : (b : BoardModel) → Contains boards b ↔ (IsOfClass goal b × (place_of b < k))
   pub rising : AllPairs (λ x y. key_of x < key_of y) boards
   pub few : length boards ≤ k
 
-pub AreBelow-none : (goal : Position) → AreBelow goal 0 []
+pub AreBelow-none : (goal : BoardModel) → AreBelow goal 0 []
 AreBelow-none goal = record {
   each = λ b. ((λ (k, k_in, is). absurd (omega arith)), (λ (class, low). absurd (omega arith)));
   rising = λ i j d less j_in. absurd (omega arith);
@@ -120,7 +120,7 @@ AreBelow-none goal = record {
 }
 
 -- the next board is of the class
-pub AreBelow-more : (goal : Position) (k : ℕ) (boards : List Position) → IsBoard goal → AreBelow goal k boards → k < ways (cell_count goal.grid) (cell_count goal.grid) → SameClass (board_at goal.grid k) goal → AreBelow goal (k + 1) (boards ++ board_at goal.grid k ∷ [])
+pub AreBelow-more : (goal : BoardModel) (k : ℕ) (boards : List BoardModel) → IsBoard goal → AreBelow goal k boards → k < ways (cell_count goal.grid) (cell_count goal.grid) → SameClass (board_at goal.grid k) goal → AreBelow goal (k + 1) (boards ++ board_at goal.grid k ∷ [])
 AreBelow-more goal k boards goal_is before low same =
     let here = board_at goal.grid k in
     let board = listed_board goal.grid k goal_is.sides low in
@@ -130,7 +130,7 @@ AreBelow-more goal k boards goal_is before low same =
       each = λ b. (
         (λ has. elim (in_shorter boards here b has) [
           | inl there ↦ let old = (before.each b).0 there in (old.0, omega (arith, old.1))
-          | inr is ↦ (subst (IsOfClass goal) is class, subst (λ (p : Position). place_of p < k + 1) is (omega (arith, place)))
+          | inr is ↦ (subst (IsOfClass goal) is class, subst (λ (p : BoardModel). place_of p < k + 1) is (omega (arith, place)))
         ]),
         (λ (is, less). elim (cases_lt (place_of b) k) [
           | inl lower ↦ in_longer boards here b ((before.each b).1 (is, lower))
@@ -143,7 +143,7 @@ AreBelow-more goal k boards goal_is before low same =
     }
 
 -- it isn't
-pub AreBelow-same : (goal : Position) (k : ℕ) (boards : List Position) → IsBoard goal → AreBelow goal k boards → k < ways (cell_count goal.grid) (cell_count goal.grid) → ¬ SameClass (board_at goal.grid k) goal → AreBelow goal (k + 1) boards
+pub AreBelow-same : (goal : BoardModel) (k : ℕ) (boards : List BoardModel) → IsBoard goal → AreBelow goal k boards → k < ways (cell_count goal.grid) (cell_count goal.grid) → ¬ SameClass (board_at goal.grid k) goal → AreBelow goal (k + 1) boards
 AreBelow-same goal k boards goal_is before low other =
     let here = board_at goal.grid k in
     let board = listed_board goal.grid k goal_is.sides low in
@@ -153,7 +153,7 @@ AreBelow-same goal k boards goal_is before low other =
         (λ has. let old = (before.each b).0 has in (old.0, omega (arith, old.1))),
         (λ (is, less). elim (cases_lt (place_of b) k) [
           | inl lower ↦ (before.each b).1 (is, lower)
-          | inr last ↦ absurd (other (subst (λ (p : Position). SameClass p goal) (sym (same_place here b board is.board (sym is.sides) (place ∙ omega arith))) is.class))
+          | inr last ↦ absurd (other (subst (λ (p : BoardModel). SameClass p goal) (sym (same_place here b board is.board (sym is.sides) (place ∙ omega arith))) is.class))
         ]),
       );
       rising = before.rising;
@@ -161,20 +161,20 @@ AreBelow-same goal k boards goal_is before low other =
     }
 
 -- below the count of places are all boards of the class
-pub AreBelow-all : (goal : Position) (boards : List Position) → AreBelow goal (ways (cell_count goal.grid) (cell_count goal.grid)) boards → AreWholeClass goal boards
+pub AreBelow-all : (goal : BoardModel) (boards : List BoardModel) → AreBelow goal (ways (cell_count goal.grid) (cell_count goal.grid)) boards → AreWholeClass goal boards
 AreBelow-all goal boards all = record {
   each = λ b. (
     (λ has. ((all.each b).0 has).0),
-    (λ is. (all.each b).1 (is, subst (λ (g : Grid). place_of b < ways (cell_count g) (cell_count g)) is.sides (place_below b is.board))),
+    (λ is. (all.each b).1 (is, subst (λ (g : ShapeModel). place_of b < ways (cell_count g) (cell_count g)) is.sides (place_below b is.board))),
   );
   rising = all.rising;
 }
 
-class_cases : (b q : Position) → SameClass b q ⊎ (¬ SameClass b q)
+class_cases : (b q : BoardModel) → SameClass b q ⊎ (¬ SameClass b q)
 class_cases b q = cases_eq _ _
 
 -- the boards of the class so far are a beginning of all
-pub AreBelow-on : (goal : Position) (left k : ℕ) (boards : List Position) → IsBoard goal → AreBelow goal k boards → k + left ≡ ways (cell_count goal.grid) (cell_count goal.grid) → (rest : List Position) × AreWholeClass goal (boards ++ rest)
+pub AreBelow-on : (goal : BoardModel) (left k : ℕ) (boards : List BoardModel) → IsBoard goal → AreBelow goal k boards → k + left ≡ ways (cell_count goal.grid) (cell_count goal.grid) → (rest : List BoardModel) × AreWholeClass goal (boards ++ rest)
 AreBelow-on goal zero k boards goal_is before all =
     let whole : AreBelow goal (ways (cell_count goal.grid) (cell_count goal.grid)) boards = subst (λ (n : ℕ). AreBelow goal n boards) (omega arith) before in
     ([], subst (AreWholeClass goal) (sym (append-nil boards)) (AreBelow-all goal boards whole))

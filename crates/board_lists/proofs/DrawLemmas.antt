@@ -6,29 +6,29 @@ use Rattle.std.proofs.lemmas.Bool.{cases_eq, ne_eqb}
 use Rattle.std.proofs.lemmas.Bool.Decides.{nat_tests}
 use Rattle.std.proofs.lemmas.List.Sorted.{IsPermutation-keeps}
 use Rattle.std.proofs.lemmas.List.Sums.{sum_by-cons}
-use Rattle.board.specs.Grids.{Grid, cell_count}
-use Rattle.board.specs.Positions.{Position, IsBoard, blank_of}
+use Rattle.board.specs.Shapes.{ShapeModel, cell_count}
+use Rattle.board.specs.Boards.{BoardModel, IsBoard, blank_of}
 use Rattle.board.specs.Classes.{inversions, taxicab, SameClass}
 use Rattle.board.proofs.MoveLemmas.{exchange_board}
 use Rattle.board_lists.specs.Classes.{turned}
 
 -- a board with other tiles
-abbrev pub tiled : Position → List ℕ → Position
+abbrev pub tiled : BoardModel → List ℕ → BoardModel
 tiled b tiles = record { grid = b.grid; tiles = tiles }
 
 -- the tiles of a board in any order are a board
-pub shuffled_board : (b : Position) (tiles : List ℕ) → IsBoard b → IsPermutation b.tiles tiles → IsBoard (tiled b tiles)
+pub shuffled_board : (b : BoardModel) (tiles : List ℕ) → IsBoard b → IsPermutation b.tiles tiles → IsBoard (tiled b tiles)
 shuffled_board b tiles board shuffled =
     IsPermutation-keeps b.tiles (λ l. IsBoard (tiled b l)) board
     (λ l i j i_in j_in is. let n = is.one_each in exchange_board (tiled b l) i j is (omega arith) (omega arith))
     tiles shuffled
 
-turned_either : (b : Position) (late : Bool) → IsBoard (tiled b (swap b.tiles 2 3)) → IsBoard (tiled b (swap b.tiles 0 1)) → IsBoard (tiled b (cond late (swap b.tiles 2 3) (swap b.tiles 0 1)))
+turned_either : (b : BoardModel) (late : Bool) → IsBoard (tiled b (swap b.tiles 2 3)) → IsBoard (tiled b (swap b.tiles 0 1)) → IsBoard (tiled b (cond late (swap b.tiles 2 3) (swap b.tiles 0 1)))
 turned_either b true x y = x
 turned_either b false x y = y
 
 -- so is a board with two tiles exchanged
-pub turned_board : (b : Position) → IsBoard b → 4 ≤ cell_count b.grid → IsBoard (tiled b (turned b.tiles))
+pub turned_board : (b : BoardModel) → IsBoard b → 4 ≤ cell_count b.grid → IsBoard (tiled b (turned b.tiles))
 turned_board b board some =
     turned_either b ((slice_index b.tiles 0 == 0) || (slice_index b.tiles 1 == 0)) (exchange_board b 2 3 board (omega arith) (omega arith)) (exchange_board b 0 1 board (omega arith) (omega arith))
 
@@ -39,7 +39,7 @@ take_front (suc n) [] behind long = absurd (omega (arith, long))
 take_front (suc n) (x ∷ front) behind long = ap (λ (l : List ℕ). x ∷ l) (take_front n front behind (omega (arith, long)))
 
 -- what is read from the front of an array is a board, where the tiles of one were shuffled there
-pub shuffled_front : (b : Position) (grid : Grid) (n : ℕ) (array tiles behind : List ℕ) → IsBoard b → grid ≡ b.grid → n ≡ cell_count grid → take (cell_count b.grid) array ≡ b.tiles → IsPermutation (take n array) tiles → IsBoard (record { grid = grid; tiles = take n (tiles ++ behind) })
+pub shuffled_front : (b : BoardModel) (grid : ShapeModel) (n : ℕ) (array tiles behind : List ℕ) → IsBoard b → grid ≡ b.grid → n ≡ cell_count grid → take (cell_count b.grid) array ≡ b.tiles → IsPermutation (take n array) tiles → IsBoard (record { grid = grid; tiles = take n (tiles ++ behind) })
 shuffled_front b grid n array tiles behind board sides count held shuffled =
     let all : n ≡ cell_count b.grid = count ∙ ap cell_count sides in
     let is = shuffled_board b tiles board (subst (λ (l : List ℕ). IsPermutation l tiles) (ap (λ (k : ℕ). take k array) all ∙ held) shuffled) in
@@ -47,7 +47,7 @@ shuffled_front b grid n array tiles behind board sides count held shuffled =
     subst IsBoard (λ i. record { grid = sym sides i; tiles = sym front i }) is
 
 -- and where two tiles of one were exchanged there
-pub turned_front : (b : Position) (grid : Grid) (n : ℕ) (array tiles behind : List ℕ) → IsBoard b → grid ≡ b.grid → n ≡ cell_count grid → 4 ≤ n → take (cell_count b.grid) array ≡ b.tiles → tiles ≡ turned (take n array) → IsBoard (record { grid = grid; tiles = take n (tiles ++ behind) }) × (take n (tiles ++ behind) ≡ turned b.tiles)
+pub turned_front : (b : BoardModel) (grid : ShapeModel) (n : ℕ) (array tiles behind : List ℕ) → IsBoard b → grid ≡ b.grid → n ≡ cell_count grid → 4 ≤ n → take (cell_count b.grid) array ≡ b.tiles → tiles ≡ turned (take n array) → IsBoard (record { grid = grid; tiles = take n (tiles ++ behind) }) × (take n (tiles ++ behind) ≡ turned b.tiles)
 turned_front b grid n array tiles behind board sides count some held turn =
     let all : n ≡ cell_count b.grid = count ∙ ap cell_count sides in
     let is : tiles ≡ turned b.tiles = turn ∙ ap turned (ap (λ (k : ℕ). take k array) all ∙ held) in
@@ -154,7 +154,7 @@ turns_all (v ∷ w ∷ x ∷ []) some different = absurd (omega arith)
 turns_all (v ∷ w ∷ x ∷ y ∷ rest) some different = turns v w x y rest (different 0 1 0 (omega arith) (omega arith)) (different 2 3 0 (omega arith) (omega arith))
 
 -- a board that isn't in the class of q enters it by the exchange of two tiles
-pub turned_class : (b q : Position) → IsBoard b → 4 ≤ cell_count b.grid → ¬ SameClass b q → SameClass (tiled b (turned b.tiles)) q
+pub turned_class : (b q : BoardModel) → IsBoard b → 4 ≤ cell_count b.grid → ¬ SameClass b q → SameClass (tiled b (turned b.tiles)) q
 unfolding place_of
 turned_class b q board some other =
     let n = board.one_each in

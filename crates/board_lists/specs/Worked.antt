@@ -1,15 +1,15 @@
 -- A worked row: the lines of two boards. It is the contract of a function that does nothing.
 use Rattle.std.specs.Prelude.{◌≡◌, true, ℕ, List, [], ◌∷◌, codes, Ok, Err}
-use Rattle.board.specs.Positions.{Position}
+use Rattle.board.specs.Boards.{BoardModel}
 use Rattle.byte_streams.specs.Streams.{SinkState, Change}
 use Rattle.byte_streams.specs.Sink.{WritesAll, PutsBeginning}
 use Rattle.byte_streams.specs.declared.sink.WriteFailed.{WriteFailed}
 use Rattle.board_lists.specs.Lists.{ListsBoards}
 
-abbrev pub of_3_by_4 : List ℕ → Position
+abbrev pub of_3_by_4 : List ℕ → BoardModel
 of_3_by_4 tiles = record { grid = record { rows = 3; cols = 4 }; tiles = tiles }
 
-abbrev pub two_boards : List Position
+abbrev pub two_boards : List BoardModel
 two_boards = of_3_by_4 (4 ∷ 1 ∷ 2 ∷ 3 ∷ 0 ∷ 5 ∷ 6 ∷ 7 ∷ 8 ∷ 9 ∷ 10 ∷ 11 ∷ []) ∷ of_3_by_4 (1 ∷ 0 ∷ 2 ∷ 3 ∷ 4 ∷ 5 ∷ 6 ∷ 7 ∷ 8 ∷ 9 ∷ 10 ∷ 11 ∷ []) ∷ []
 
 abbrev pub two_lines : List ℕ

@@ -1,8 +1,8 @@
 //! Boards drawn at random.
 
 ghost use Rattle.std.specs.Prelude.{◌≡◌, ◌≤◌, length, take};
-ghost use Rattle.board.specs.Grids.{cell_count};
-ghost use Rattle.board.specs.Positions.{Position, IsBoard};
+ghost use Rattle.board.specs.Shapes.{cell_count};
+ghost use Rattle.board.specs.Boards.{BoardModel, IsBoard};
 ghost use Rattle.board.specs.Classes.{SameClass};
 ghost use Rattle.board_lists.specs.Classes.{IsOfClass};
 ghost use Rattle.board_lists.specs.Classes.{turned};
@@ -41,7 +41,7 @@ fn shuffle_tiles(generator: &mut Xoshiro256PlusPlus, goal: &Board) -> Board
 fn turn(board: &Board) -> Board
     ensures grid { result.grid ≡ board.now.grid }
     ensures board { IsBoard result }
-    ensures class { (q : Position) → ¬ SameClass board.now q → SameClass result q }
+    ensures class { (q : BoardModel) → ¬ SameClass board.now q → SameClass result q }
 {
     let shape = board.shape();
     let cells = shape.cells();

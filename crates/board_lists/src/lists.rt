@@ -1,10 +1,10 @@
 //! Lists of boards, line by line.
 
 ghost use Rattle.std.specs.Prelude.{◌≡◌, ◌≤◌, ◌<◌, ◌⊎◌, true};
-ghost use Rattle.board.specs.Grids.{Grid, IsShape, cell_count};
+ghost use Rattle.board.specs.Shapes.{ShapeModel, IsShape, cell_count};
 ghost use Rattle.byte_streams.specs.Streams.{change};
 ghost use Rattle.pattern_index.specs.Ranks.{ways};
-ghost use Rattle.board_lists.specs.Classes.{IsOfClass, AreEach, AreWholeClass};
+ghost use Rattle.board_lists.specs.Classes.{IsOfClass, AreBoardsWith, AreWholeClass};
 ghost use Rattle.board_lists.specs.Walks.{IsWalked};
 ghost use Rattle.board_lists.specs.Lists.{ListsBoards};
 ghost use Rattle.board_lists.specs.Classes.{board_at};
@@ -28,7 +28,7 @@ pub(crate) fn list_drawn<K: Sink>(
     count: u64,
     seed: u64,
 ) -> Result<(), WriteFailed>
-    ensures lists { ListsBoards (AreEach (IsOfClass goal.now) count)
+    ensures lists { ListsBoards (AreBoardsWith (IsOfClass goal.now) count)
         (change K.state sink.old sink.new) result }
     ensures flushed { K.is_flushed sink.new ⊎ ((K.state sink.new).has_failed ≡ true) }
 {
@@ -51,7 +51,7 @@ pub(crate) fn list_walked<K: Sink>(
     count: u64,
     seed: u64,
 ) -> Result<(), WriteFailed>
-    ensures lists { ListsBoards (AreEach (IsWalked goal.now moves) count)
+    ensures lists { ListsBoards (AreBoardsWith (IsWalked goal.now moves) count)
         (change K.state sink.old sink.new) result }
     ensures flushed { K.is_flushed sink.new ⊎ ((K.state sink.new).has_failed ≡ true) }
 {

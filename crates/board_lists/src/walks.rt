@@ -1,7 +1,7 @@
 //! Walks from a goal.
 
 ghost use Rattle.std.specs.Prelude.{◌≡◌, IsPermutation, true};
-ghost use Rattle.board.specs.Positions.{IsBoard};
+ghost use Rattle.board.specs.Boards.{IsBoard};
 ghost use Rattle.board.specs.Moves.{all_moves};
 ghost use Rattle.board_lists.specs.Walks.{IsWalkedTo};
 ghost use Rattle.board_lists.specs.Walks.{leads_on, takes_back};

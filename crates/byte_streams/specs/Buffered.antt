@@ -11,24 +11,24 @@ AreNext None held = ⊤
 AreNext (Some left) held = (more : List ℕ) × (left ≡ held ++ more)
 
 -- a reader, the bytes that were read of it and not given yet, and whether reading has failed
-pub record Buffered (R : Type 0) : Type 0 where
+pub record BufferedModel (R : Type 0) : Type 0 where
   pub reader : R
   pub held : List ℕ
   pub has_failed : Bool
 
 -- what is left of it: the bytes that it holds, and then what is left of the reader
-abbrev pub buffered_state : {R : Type 0} → (R → Option (List ℕ)) → Buffered R → SourceState
+abbrev pub buffered_state : {R : Type 0} → (R → Option (List ℕ)) → BufferedModel R → SourceState
 buffered_state left source = record { left = prepend_known source.held (left source.reader); has_failed = source.has_failed }
 
 -- one read gave the byte and those that are held behind it, or none at the end
-abbrev pub GivenByFill : {R : Type 0} → (R → List ℕ → R → Type 0) → Change (Buffered R) → Option ℕ → Type 0
+abbrev pub GivenByFill : {R : Type 0} → (R → List ℕ → R → Type 0) → Change (BufferedModel R) → Option ℕ → Type 0
 GivenByFill gives source None = gives source.before.reader [] source.after.reader
 GivenByFill gives source (Some byte) = gives source.before.reader (byte ∷ source.after.held) source.after.reader
 
 -- ---- what lies in memory
 
 -- the bytes from one place of the buffer up to another are held
-abbrev pub buffered_of : {R : Type 0} → Inside R → Buffered R
+abbrev pub buffered_of : {R : Type 0} → Inside R → BufferedModel R
 buffered_of inside = record { reader = inside.reader; held = take (inside.end - inside.first) (drop inside.first inside.buffer.items); has_failed = inside.has_failed }
 
 -- the places are in their order and in the buffer, which has room
@@ -40,7 +40,7 @@ pub record IsBuffer {R : Type 0} (inside : Inside R) : Type 0 where
 -- ---- a read into a buffer that holds nothing
 
 -- Something was read, and is held; or nothing was left, and nothing is; or reading has failed. No byte is lost.
-abbrev pub Fills : {R : Type 0} → (R → Option (List ℕ)) → Change (Buffered R) → Result Bool ReadFailed → Type 0
+abbrev pub Fills : {R : Type 0} → (R → Option (List ℕ)) → Change (BufferedModel R) → Result Bool ReadFailed → Type 0
 Fills left source (Ok true) = (source.after.held ≢ []) × Keeps (left source.before.reader) (buffered_state left source.after).left × (source.after.has_failed ≡ source.before.has_failed)
 Fills left source (Ok false) = (source.after.held ≡ []) × Consumes (left source.before.reader) (left source.after.reader) [] × IsAtEnd (left source.after.reader) × (source.after.has_failed ≡ source.before.has_failed)
 Fills left source (Err failure) = (source.after.held ≡ []) × Keeps (left source.before.reader) (left source.after.reader) × (source.after.has_failed ≡ true)

@@ -27,9 +27,9 @@ pub struct BufferedSource<R> {
 }
 
 impl<R> Model for BufferedSource<R> {
-    ghost use Rattle.byte_streams.specs.Buffered.{Buffered, buffered_of, IsBuffer};
+    ghost use Rattle.byte_streams.specs.Buffered.{BufferedModel, buffered_of, IsBuffer};
 
-    ghost Value = { Buffered R };
+    ghost Value = { BufferedModel R };
 
     ghost view = { buffered_of };
 

@@ -2,17 +2,17 @@
 use Rattle.std.proofs.Common.{◌≡◌, ◌⊎◌, inl, inr, ⊎_elim, ℕ, ◌<◌, ◌≤◌, ◌^◌, List, [], ◌∷◌, ◌++◌, length, Option, Some, None, Ok, Err, refl, sym, ap, subst, ◌∙◌, append-nil, append_assoc, arith}
 use Rattle.std.specs.List.{flat_map, AllByRecursion}
 use Rattle.board.specs.declared.moves.Move.{Move}
-use Rattle.board.specs.Grids.{Grid, IsShape}
-use Rattle.board.specs.Positions.{Position}
-use Rattle.board.specs.CostRules.{CostRule}
-use Rattle.pattern_index.specs.Selections.{Selection}
-use Rattle.pattern_index.specs.Splits.{Split}
+use Rattle.board.specs.Shapes.{ShapeModel, IsShape}
+use Rattle.board.specs.Boards.{BoardModel}
+use Rattle.board.specs.Weights.{WeightsModel}
+use Rattle.pattern_index.specs.Groups.{GroupModel}
+use Rattle.pattern_index.specs.Partitions.{PartitionModel}
 use Rattle.certificate.specs.declared.certificate.Version.{Version}
 use Rattle.certificate.specs.declared.certificate.Version.TheVariants.{One, Two}
 use Rattle.certificate.specs.Fields.{IsClaimIn, SpellsAllGroups, SpellsAllRows, SpellsBeginning, SpellsBoard, SpellsBody, SpellsClaimed, SpellsCount, SpellsFront, SpellsGroups, SpellsOpening}
 use Rattle.certificate.specs.declared.faults.FormatFault.{FormatFault}
 use Rattle.certificate.specs.declared.faults.FormatFault.TheVariants.{OutOfRange, BytesAfterEnd}
-use Rattle.certificate.specs.Certificates.{Statement, Allows, IsSplitOf, IsBoardOf, IsRow, RiseAfter, IsCertificate}
+use Rattle.certificate.specs.Certificates.{CertificateModel, Allows, IsSplitOf, IsBoardOf, IsRow, RiseAfter, IsCertificate}
 use Rattle.certificate.specs.Spellings.{claim_of, beginning_text, opening_text, count_text, group_text, groups_text, claimed_text, row_text, body_text, front_text, heading, announcement, spelling, Spells}
 use Rattle.certificate.specs.Readings.{◌>>=◌, next_reading, give, byte_within, byte_in, count, count_in, board, beginning, opening, groups, all_groups, claimed, rows, all_rows, end, body, front, certificate, IsFaultAt}
 use Rattle.certificate.specs.Laws.{AreBytes, Begins, AnnouncesGroups, AnnouncesRows}
@@ -23,13 +23,13 @@ use Rattle.certificate.proofs.GroupLemmas.{IsGroupHead, all_groups_law, groups_b
 
 -- ---- the boards, and what is claimed
 
-abbrev pub bare_of : Version → CostRule → Split → Position → Position → ℕ × Option (List Move) → Statement
+abbrev pub bare_of : Version → WeightsModel → PartitionModel → BoardModel → BoardModel → ℕ × Option (List Move) → CertificateModel
 bare_of v costs split start goal found = record { version = v; grid = costs.grid; costs = costs; groups = split; start = start; goal = goal; cost = found.0; plan = found.1; rows = [] }
 
-abbrev pub BodyParts : Version → ℕ → CostRule → Split → Statement → List ℕ → Type 0
+abbrev pub BodyParts : Version → ℕ → WeightsModel → PartitionModel → CertificateModel → List ℕ → Type 0
 BodyParts v n costs split = Both (SpellsBoard costs.grid) (λ start. Both (SpellsBoard costs.grid) (λ goal. Both (SpellsClaimed n) (λ found. Known (bare_of v costs split start goal found))))
 
-pub body_there : (v : Version) (n : ℕ) (costs : CostRule) (split : Split) (c : Statement) (text : List ℕ) → BodyParts v n costs split c text → SpellsBody v n costs split c text
+pub body_there : (v : Version) (n : ℕ) (costs : WeightsModel) (split : PartitionModel) (c : CertificateModel) (text : List ℕ) → BodyParts v n costs split c text → SpellsBody v n costs split c text
 body_there v n costs split c text (start, s1, t1, b, (goal, s2, t2, g, (found, s3, t3, f, (known, nil), e3), e2), e1) =
     let made : SpellsBody v n costs split (bare_of v costs split start goal found) text = record {
       start = b.board;
@@ -41,9 +41,9 @@ body_there v n costs split c text (start, s1, t1, b, (goal, s2, t2, g, (found, s
       is = e1 ∙ (λ i. b.is i ++ e2 i) ∙ (λ i. start.tiles ++ (g.is i ++ e3 i)) ∙ (λ i. start.tiles ++ (goal.tiles ++ (f.is i ++ nil i)))
           ∙ ap (λ (l : List ℕ). start.tiles ++ (goal.tiles ++ l)) (append-nil (claimed_text found.0 found.1));
     } in
-    subst (λ (d : Statement). SpellsBody v n costs split d text) (sym known) made
+    subst (λ (d : CertificateModel). SpellsBody v n costs split d text) (sym known) made
 
-body_back : (v : Version) (n : ℕ) (costs : CostRule) (split : Split) (c : Statement) (text : List ℕ) → SpellsBody v n costs split c text → BodyParts v n costs split c text
+body_back : (v : Version) (n : ℕ) (costs : WeightsModel) (split : PartitionModel) (c : CertificateModel) (text : List ℕ) → SpellsBody v n costs split c text → BodyParts v n costs split c text
 body_back v n costs split c text t =
     let found : ℕ × Option (List Move) = (c.cost, c.plan) in
     let last = claimed_text c.cost c.plan in
@@ -52,14 +52,14 @@ body_back v n costs split c text t =
     let f : SpellsClaimed n found last = record { claim = t.claim; cost = t.cost; plan = t.plan; is = refl } in
     (c.start, c.start.tiles, c.goal.tiles ++ last, b, (c.goal, c.goal.tiles, last, g, (found, last, [], f, (t.same, refl), sym (append-nil last)), refl), t.is)
 
-pub body_law : (v : Version) (n : ℕ) (costs : CostRule) (split : Split) → IsShape costs.grid → n ≤ 1 → Law (body v n costs split) (SpellsBody v n costs split)
+pub body_law : (v : Version) (n : ℕ) (costs : WeightsModel) (split : PartitionModel) → IsShape costs.grid → n ≤ 1 → Law (body v n costs split) (SpellsBody v n costs split)
 unfolding body
 body_law v n costs split sides low = Law-iff _ (BodyParts v n costs split) (SpellsBody v n costs split) (body_there v n costs split) (body_back v n costs split)
     (Law-seq (board costs.grid) _ (SpellsBoard costs.grid) _ (board_law costs.grid sides) (λ start _ _.
     Law-seq (board costs.grid) _ (SpellsBoard costs.grid) _ (board_law costs.grid sides) (λ goal _ _.
     Law-seq (claimed n) _ (SpellsClaimed n) _ (claimed_law n low) (λ found _ _. Law-give (bare_of v costs split start goal found)))))
 
-body_opens : (v : Version) (n : ℕ) (costs : CostRule) (split : Split) → IsShape costs.grid → n ≤ 1 → Opens (body v n costs split) (SpellsBody v n costs split)
+body_opens : (v : Version) (n : ℕ) (costs : WeightsModel) (split : PartitionModel) → IsShape costs.grid → n ≤ 1 → Opens (body v n costs split) (SpellsBody v n costs split)
 unfolding body
 body_opens v n costs split sides low = Opens-iff _ (BodyParts v n costs split) (SpellsBody v n costs split) (body_there v n costs split)
     (Opens-seq (board costs.grid) _ (SpellsBoard costs.grid) _ (board_law costs.grid sides) (board_opens costs.grid sides) (λ start _ _.
@@ -84,13 +84,13 @@ allowed_claim One None some = absurd cc
 allowed_claim Two (Some plan) some = omega arith
 allowed_claim Two None some = omega arith
 
-abbrev pub CostsParts : Version → ℕ → Statement → List ℕ → Type 0
+abbrev pub CostsParts : Version → ℕ → CertificateModel → List ℕ → Type 0
 CostsParts v n = Both SpellsOpening (λ costs. Both (SpellsAllGroups costs.grid) (λ split. SpellsBody v n costs split))
 
-abbrev pub FrontParts : Statement → List ℕ → Type 0
+abbrev pub FrontParts : CertificateModel → List ℕ → Type 0
 FrontParts = Both SpellsBeginning (λ form. CostsParts form.0 form.1)
 
-pub front_there : (c : Statement) (text : List ℕ) → FrontParts c text → SpellsFront c text
+pub front_there : (c : CertificateModel) (text : List ℕ) → FrontParts c text → SpellsFront c text
 front_there c text (form, s, t, f, (costs, s0, t0, o, (split, s1, t1, g, b, e1), e0), e) =
     let v = form.0 in
     let n = form.1 in
@@ -101,9 +101,9 @@ front_there c text (form, s, t, f, (costs, s0, t0, o, (split, s1, t1, g, b, e1),
       bare = refl;
       is = whole ∙ ap (λ (m : ℕ). beginning_text v m ++ (opening_text costs ++ (groups_text split.groups ++ body_text c))) (sym b.claim);
     } in
-    subst (λ (d : Statement). SpellsFront d text) (sym b.same) made
+    subst (λ (d : CertificateModel). SpellsFront d text) (sym b.same) made
 
-front_back : (c : Statement) (text : List ℕ) → SpellsFront c text → FrontParts c text
+front_back : (c : CertificateModel) (text : List ℕ) → SpellsFront c text → FrontParts c text
 front_back c text t =
     let same : c.costs.grid ≡ c.grid = t.fits.costs.sides in
     let costs = c.costs in
@@ -111,10 +111,10 @@ front_back c text t =
     let first = beginning_text c.version (claim_of c.plan) in
     let f : SpellsBeginning form first = record { allowed = allowed_claim c.version c.plan t.fits.claim; is = refl } in
     let o : SpellsOpening costs (opening_text costs) = record { rule = t.fits.costs.rule; is = refl } in
-    let g : SpellsAllGroups costs.grid c.groups (groups_text c.groups.groups) = record { split = subst (λ (g : Grid). IsSplitOf g c.groups) (sym same) t.fits.groups; is = refl } in
+    let g : SpellsAllGroups costs.grid c.groups (groups_text c.groups.groups) = record { split = subst (λ (g : ShapeModel). IsSplitOf g c.groups) (sym same) t.fits.groups; is = refl } in
     let b : SpellsBody c.version (claim_of c.plan) costs c.groups c (body_text c) = record {
-      start = subst (λ (g : Grid). IsBoardOf g c.start) (sym same) t.fits.start;
-      goal = subst (λ (g : Grid). IsBoardOf g c.goal) (sym same) t.fits.goal;
+      start = subst (λ (g : ShapeModel). IsBoardOf g c.start) (sym same) t.fits.start;
+      goal = subst (λ (g : ShapeModel). IsBoardOf g c.goal) (sym same) t.fits.goal;
       claim = refl;
       cost = t.fits.cost;
       plan = t.fits.plan;
@@ -132,7 +132,7 @@ front_law = Law-iff _ FrontParts SpellsFront front_there front_back (Law-seq beg
 
 -- ---- the rows
 
-pub proof_there : (grid : Grid) (rs : List (Position × ℕ)) (text : List ℕ) → Both SpellsCount (λ n. RowsText grid None n) rs text → SpellsAllRows grid rs text
+pub proof_there : (grid : ShapeModel) (rs : List (BoardModel × ℕ)) (text : List ℕ) → Both SpellsCount (λ n. RowsText grid None n) rs text → SpellsAllRows grid rs text
 proof_there grid rs text (n, s, t, c, r, e) = record {
   count = subst (λ (m : ℕ). m < 2 ^ 64) (sym r.count) c.within;
   rows = r.rows;
@@ -140,20 +140,20 @@ proof_there grid rs text (n, s, t, c, r, e) = record {
   is = e ∙ (λ i. c.is i ++ r.is i) ∙ ap (λ (m : ℕ). count_text m ++ flat_map row_text rs) (sym r.count);
 }
 
-proof_back : (grid : Grid) (rs : List (Position × ℕ)) (text : List ℕ) → SpellsAllRows grid rs text → Both SpellsCount (λ n. RowsText grid None n) rs text
+proof_back : (grid : ShapeModel) (rs : List (BoardModel × ℕ)) (text : List ℕ) → SpellsAllRows grid rs text → Both SpellsCount (λ n. RowsText grid None n) rs text
 proof_back grid rs text t = (length rs, count_text (length rs), flat_map row_text rs, record { within = t.count; is = refl }, record { count = refl; rows = t.rows; rising = t.rising; is = refl }, t.is)
 
-pub all_rows_law : (grid : Grid) → IsShape grid → Law (all_rows grid) (SpellsAllRows grid)
+pub all_rows_law : (grid : ShapeModel) → IsShape grid → Law (all_rows grid) (SpellsAllRows grid)
 unfolding all_rows
 all_rows_law grid sides = Law-iff _ (Both SpellsCount (λ n. RowsText grid None n)) (SpellsAllRows grid) (proof_there grid) (proof_back grid) (Law-seq count _ SpellsCount _ count_law (λ n _ _. rows_law grid None n sides tt))
 
 -- ---- the whole
 
 -- the statement without its rows
-abbrev pub bare : Statement → Statement
+abbrev pub bare : CertificateModel → CertificateModel
 bare c = record c { rows = [] }
 
-bare_fits : (c : Statement) → IsCertificate c → IsCertificate (bare c)
+bare_fits : (c : CertificateModel) → IsCertificate c → IsCertificate (bare c)
 bare_fits c fits = record {
   sides = fits.sides;
   costs = fits.costs;
@@ -168,7 +168,7 @@ bare_fits c fits = record {
   rising = tt;
 }
 
-pub with_rows : (d : Statement) (rs : List (Position × ℕ)) → IsCertificate d → length rs < 2 ^ 64 → AllByRecursion (IsRow d.grid) rs → RiseAfter None rs → IsCertificate (record d { rows = rs })
+pub with_rows : (d : CertificateModel) (rs : List (BoardModel × ℕ)) → IsCertificate d → length rs < 2 ^ 64 → AllByRecursion (IsRow d.grid) rs → RiseAfter None rs → IsCertificate (record d { rows = rs })
 with_rows d rs fits count all rising = record {
   sides = fits.sides;
   costs = fits.costs;
@@ -183,21 +183,21 @@ with_rows d rs fits count all rising = record {
   rising = rising;
 }
 
-abbrev rows_text : Statement → List ℕ
+abbrev rows_text : CertificateModel → List ℕ
 rows_text c = count_text (length c.rows) ++ flat_map row_text c.rows
 
 -- after the spelling only the end is left to be judged
-pub read_again : (c : Statement) (rest : List ℕ) → IsCertificate c → certificate (spelling c ++ rest) ≡ next_reading (λ (u : Unit {0}). give c) (end rest)
+pub read_again : (c : CertificateModel) (rest : List ℕ) → IsCertificate c → certificate (spelling c ++ rest) ≡ next_reading (λ (u : Unit {0}). give c) (end rest)
 unfolding certificate ◌>>=◌
 read_again c rest fits =
     let first : front (front_text c ++ (rows_text c ++ rest)) ≡ Ok (bare c, rows_text c ++ rest) = front_law.again (bare c) (front_text c) (rows_text c ++ rest) (record { fits = bare_fits c fits; bare = refl; is = refl }) in
     let second : all_rows c.grid (rows_text c ++ rest) ≡ Ok (c.rows, rest) = (all_rows_law c.grid fits.sides).again c.rows (rows_text c) rest (record { count = fits.count; rows = fits.rows; rising = fits.rising; is = refl }) in
     ap (λ (l : List ℕ). certificate l) (append_assoc (front_text c) (rows_text c) rest)
-    ∙ ap (next_reading (λ (d : Statement). all_rows d.grid >>= λ rs. end >>= λ u. give (record d { rows = rs }))) first
-    ∙ ap (next_reading (λ (rs : List (Position × ℕ)). end >>= λ u. give (record (bare c) { rows = rs }))) second
+    ∙ ap (next_reading (λ (d : CertificateModel). all_rows d.grid >>= λ rs. end >>= λ u. give (record d { rows = rs }))) first
+    ∙ ap (next_reading (λ (rs : List (BoardModel × ℕ)). end >>= λ u. give (record (bare c) { rows = rs }))) second
 
 -- all before the rows, and then the rows
-whole_text : (bytes s mid t rest : List ℕ) (d : Statement) (rs : List (Position × ℕ)) → bytes ≡ s ++ mid → s ≡ front_text d → mid ≡ t ++ rest → t ≡ count_text (length rs) ++ flat_map row_text rs → bytes ≡ spelling (record d { rows = rs }) ++ rest
+whole_text : (bytes s mid t rest : List ℕ) (d : CertificateModel) (rs : List (BoardModel × ℕ)) → bytes ≡ s ++ mid → s ≡ front_text d → mid ≡ t ++ rest → t ≡ count_text (length rs) ++ flat_map row_text rs → bytes ≡ spelling (record d { rows = rs }) ++ rest
 whole_text bytes s mid t rest d rs parts first others proof =
     parts ∙ (λ i. first i ++ others i) ∙ ap (λ (l : List ℕ). front_text d ++ (l ++ rest)) proof ∙ sym (append_assoc (front_text d) (count_text (length rs) ++ flat_map row_text rs) rest)
 
@@ -219,29 +219,29 @@ end_from (b ∷ bytes) fault from e =
     let same : p ≡ q = cc in
     ap (λ (z : FormatFault × List ℕ). z.1) same
 
-pub read_takes : (bytes : List ℕ) → AreBytes bytes → (c : Statement) (rest : List ℕ) → certificate bytes ≡ fine c rest → Spells c bytes × (rest ≡ [])
+pub read_takes : (bytes : List ℕ) → AreBytes bytes → (c : CertificateModel) (rest : List ℕ) → certificate bytes ≡ fine c rest → Spells c bytes × (rest ≡ [])
 unfolding certificate ◌>>=◌ give
 read_takes bytes all c rest e =
-    let r = both_ok (front bytes) (λ (d : Statement). all_rows d.grid >>= λ rs. end >>= λ u. give (record d { rows = rs })) (c, rest) e in
+    let r = both_ok (front bytes) (λ (d : CertificateModel). all_rows d.grid >>= λ rs. end >>= λ u. give (record d { rows = rs })) (c, rest) e in
     let d = r.0.0 in
     let p = front_law.takes bytes all d r.0.1 r.1 in
     let left : AreBytes r.0.1 = AreBytes-rest p.0 r.0.1 (subst (λ (l : List ℕ). AreBytes l) p.2 all) in
-    let s = both_ok (all_rows d.grid r.0.1) (λ (rs : List (Position × ℕ)). end >>= λ u. give (record d { rows = rs })) (c, rest) r.2 in
+    let s = both_ok (all_rows d.grid r.0.1) (λ (rs : List (BoardModel × ℕ)). end >>= λ u. give (record d { rows = rs })) (c, rest) r.2 in
     let q = (all_rows_law d.grid p.1.fits.sides).takes r.0.1 left s.0.0 s.0.1 s.1 in
     let t = both_ok (end s.0.1) (λ (u : Unit {0}). give (record d { rows = s.0.0 })) (c, rest) s.2 in
     let done = end_takes s.0.1 t.0.0 t.0.1 t.1 in
-    let made : Statement = record d { rows = s.0.0 } in
-    let x : Statement × List ℕ = (made, t.0.1) in
-    let y : Statement × List ℕ = (c, rest) in
+    let made : CertificateModel = record d { rows = s.0.0 } in
+    let x : CertificateModel × List ℕ = (made, t.0.1) in
+    let y : CertificateModel × List ℕ = (c, rest) in
     let same : x ≡ y = same_pair made c t.0.1 rest t.2 in
     let fits : IsCertificate made = with_rows d s.0.0 p.1.fits q.1.count q.1.rows q.1.rising in
     let whole : bytes ≡ spelling made = whole_text bytes p.0 r.0.1 q.0 s.0.1 d s.0.0 p.2 p.1.is q.2 q.1.is ∙ ap (λ (l : List ℕ). spelling made ++ l) done.0 ∙ append-nil (spelling made) in
-    (subst (λ (z : Statement). Spells z bytes) (ap (λ (z : Statement × List ℕ). z.0) same) (fits, whole), ap (λ (z : Statement × List ℕ). z.1) (sym same) ∙ done.1)
+    (subst (λ (z : CertificateModel). Spells z bytes) (ap (λ (z : CertificateModel × List ℕ). z.0) same) (fits, whole), ap (λ (z : CertificateModel × List ℕ). z.1) (sym same) ∙ done.1)
   where
-    pair : Statement → List ℕ → Statement × List ℕ
+    pair : CertificateModel → List ℕ → CertificateModel × List ℕ
     pair a s = (a, s)
 
-    same_pair : (a b : Statement) (s t : List ℕ) → fine a s ≡ fine b t → pair a s ≡ pair b t
+    same_pair : (a b : CertificateModel) (s t : List ℕ) → fine a s ≡ fine b t → pair a s ≡ pair b t
     same_pair a b s t e = cc
 
 -- ---- what stands before a fault
@@ -249,18 +249,18 @@ read_takes bytes all c rest e =
 -- the beginning of a spelling, or one that announces groups or rows
 pub record Precedent (bytes from : List ℕ) : Type 0 where
   pub before : List ℕ
-  pub c : Statement
+  pub c : CertificateModel
   pub parts : bytes ≡ before ++ from
   pub fits : IsCertificate c
   pub begins : Begins (spelling c) before ⊎ AnnouncesGroups c before ⊎ AnnouncesRows c before
 
 -- what all before the rows begins with begins a spelling
-begins_front : (c : Statement) (s t : List ℕ) → SpellsFront c (s ++ t) → Begins (spelling c) s
+begins_front : (c : CertificateModel) (s t : List ℕ) → SpellsFront c (s ++ t) → Begins (spelling c) s
 begins_front c s t f = (t ++ rows_text c, ap (λ (l : List ℕ). l ++ rows_text c) (sym f.is) ∙ append_assoc s t (rows_text c))
 
 -- some statement is of this form, and has these costs and groups
-record Completed (form : Version × ℕ) (costs : CostRule) (split : Split) (r s t : List ℕ) : Type 0 where
-  c : Statement
+record Completed (form : Version × ℕ) (costs : WeightsModel) (split : PartitionModel) (r s t : List ℕ) : Type 0 where
+  c : CertificateModel
   rest : List ℕ
   front : SpellsFront c (r ++ (s ++ (t ++ rest)))
   version_is : c.version ≡ form.0
@@ -268,23 +268,23 @@ record Completed (form : Version × ℕ) (costs : CostRule) (split : Split) (r s
   costs_are : c.costs ≡ costs
   groups_are : c.groups ≡ split
 
-completed : (form : Version × ℕ) (costs : CostRule) (split : Split) (r s t : List ℕ) → SpellsBeginning form r → SpellsOpening costs s → SpellsAllGroups costs.grid split t → Completed form costs split r s t
+completed : (form : Version × ℕ) (costs : WeightsModel) (split : PartitionModel) (r s t : List ℕ) → SpellsBeginning form r → SpellsOpening costs s → SpellsAllGroups costs.grid split t → Completed form costs split r s t
 completed form costs split r s t f o g =
     let q = (body_opens form.0 form.1 costs split o.rule.sides (at_most_one form.0 form.1 f.allowed)).some in
     record {
       c = q.0;
       rest = q.1;
       front = front_there q.0 (r ++ (s ++ (t ++ q.1))) (form, r, s ++ (t ++ q.1), f, (costs, s, t ++ q.1, o, (split, t, q.1, g, q.2, refl), refl), refl);
-      version_is = ap (λ (d : Statement). d.version) q.2.same;
+      version_is = ap (λ (d : CertificateModel). d.version) q.2.same;
       claim_is = q.2.claim;
-      costs_are = ap (λ (d : Statement). d.costs) q.2.same;
-      groups_are = ap (λ (d : Statement). d.groups) q.2.same;
+      costs_are = ap (λ (d : CertificateModel). d.costs) q.2.same;
+      groups_are = ap (λ (d : CertificateModel). d.groups) q.2.same;
     }
 
-abbrev split_of : Grid → List Selection → Split
+abbrev split_of : ShapeModel → List GroupModel → PartitionModel
 split_of grid gs = record { grid = grid; groups = gs }
 
-no_groups : (grid : Grid) → SpellsAllGroups grid (split_of grid []) (0 ∷ [])
+no_groups : (grid : ShapeModel) → SpellsAllGroups grid (split_of grid []) (0 ∷ [])
 no_groups grid = record { split = split_found grid 0 [] [] (omega arith) (no_groups_found grid); is = refl }
 
 regroup : (a b c d : List ℕ) → a ++ (b ++ (c ++ d)) ≡ (a ++ (b ++ c)) ++ d
@@ -313,7 +313,7 @@ before_opening form r f bytes all fault from e =
     record { before = r ++ p.0; c = q.c; parts = ap (λ (l : List ℕ). r ++ l) p.3 ∙ sym (append_assoc r p.0 from); fits = q.front.fits; begins = inl (begins_front q.c (r ++ p.0) rest whole) }
 
 -- groups are announced, and perhaps the number of tiles
-announced : (c : Statement) (count : ℕ) (head : List ℕ) → length c.groups.groups < count → count ≤ 24 → IsGroupHead head → AnnouncesGroups c (heading count c ++ head)
+announced : (c : CertificateModel) (count : ℕ) (head : List ℕ) → length c.groups.groups < count → count ≤ 24 → IsGroupHead head → AnnouncesGroups c (heading count c ++ head)
 announced c count head more few begun = record { count = count; more = more; few = few; is = by_head begun }
   where
     by_head : IsGroupHead head → (heading count c ++ head ≡ heading count c) ⊎ ((size : ℕ) × (0 < size) × (size ≤ 24) × (heading count c ++ head ≡ heading count c ++ size ∷ []))
@@ -327,7 +327,7 @@ heading_parts begun opened n done head from =
     ∙ sym (append_assoc (begun ++ (opened ++ (n ∷ done))) head from)
 
 -- within the groups
-before_groups : (form : Version × ℕ) (costs : CostRule) (r s : List ℕ) → SpellsBeginning form r → SpellsOpening costs s → (bytes : List ℕ) → AreBytes bytes → (fault : FormatFault) (from : List ℕ) → all_groups costs.grid bytes ≡ Err (fault, from) → Precedent (r ++ (s ++ bytes)) from
+before_groups : (form : Version × ℕ) (costs : WeightsModel) (r s : List ℕ) → SpellsBeginning form r → SpellsOpening costs s → (bytes : List ℕ) → AreBytes bytes → (fault : FormatFault) (from : List ℕ) → all_groups costs.grid bytes ≡ Err (fault, from) → Precedent (r ++ (s ++ bytes)) from
 unfolding all_groups ◌>>=◌ give
 before_groups form costs r s f o bytes all fault from e =
     ⊎_elim
@@ -353,17 +353,17 @@ before_groups form costs r s f o bytes all fault from e =
       c = m.c;
       parts = (λ i. f.is i ++ (o.is i ++ (p.2 ∙ (λ j. p.1.is j ++ q.is j)) i)) ∙ heading_parts begun (opening_text costs) n (flat_map group_text q.done) q.head from ∙ ap (λ (l : List ℕ). (l ++ q.head) ++ from) (sym head_is);
       fits = m.front.fits;
-      begins = inr (inl (announced m.c n q.head (subst (λ (z : Split). length z.groups < n) (sym m.groups_are) q.fewer) p.1.below q.begun));
+      begins = inr (inl (announced m.c n q.head (subst (λ (z : PartitionModel). length z.groups < n) (sym m.groups_are) q.fewer) p.1.below q.begun));
     })
     (λ t. absurd (never (split_of costs.grid t.0.0) t.0.1 t.2))
     (one_fails (groups costs.grid [] n x.0.1) (λ found. give (split_of costs.grid found)) (fault, from) x.2))
     (one_fails (byte_within 0 24 bytes) (λ n. groups costs.grid [] n >>= λ found. give (split_of costs.grid found)) (fault, from) e)
   where
-    never : (z : Split) (l : List ℕ) → fine z l ≡ faulty Split fault from → ⊥
+    never : (z : PartitionModel) (l : List ℕ) → fine z l ≡ faulty PartitionModel fault from → ⊥
     never z l e = absurd cc
 
 -- within the boards, and what is claimed
-before_body : (form : Version × ℕ) (costs : CostRule) (split : Split) (r s t : List ℕ) → SpellsBeginning form r → SpellsOpening costs s → SpellsAllGroups costs.grid split t → (bytes : List ℕ) → AreBytes bytes → (fault : FormatFault) (from : List ℕ) → body form.0 form.1 costs split bytes ≡ Err (fault, from)
+before_body : (form : Version × ℕ) (costs : WeightsModel) (split : PartitionModel) (r s t : List ℕ) → SpellsBeginning form r → SpellsOpening costs s → SpellsAllGroups costs.grid split t → (bytes : List ℕ) → AreBytes bytes → (fault : FormatFault) (from : List ℕ) → body form.0 form.1 costs split bytes ≡ Err (fault, from)
     → Precedent (r ++ (s ++ (t ++ bytes))) from
 before_body form costs split r s t f o g bytes all fault from e =
     let b = (body_opens form.0 form.1 costs split o.rule.sides (at_most_one form.0 form.1 f.allowed)).before bytes all fault from e in
@@ -406,7 +406,7 @@ before_front bytes all fault from e =
     (one_fails (beginning bytes) (λ (form : Version × ℕ). opening >>= λ costs. all_groups costs.grid >>= λ split. body form.0 form.1 costs split) (fault, from) e)
 
 -- within the rows
-before_rows : (d : Statement) → IsCertificate d → d.rows ≡ [] → (bytes : List ℕ) → AreBytes bytes → (fault : FormatFault) (from : List ℕ) → all_rows d.grid bytes ≡ Err (fault, from) → Precedent (front_text d ++ bytes) from
+before_rows : (d : CertificateModel) → IsCertificate d → d.rows ≡ [] → (bytes : List ℕ) → AreBytes bytes → (fault : FormatFault) (from : List ℕ) → all_rows d.grid bytes ≡ Err (fault, from) → Precedent (front_text d ++ bytes) from
 unfolding all_rows ◌>>=◌
 before_rows d fits none bytes all fault from e =
     ⊎_elim
@@ -417,7 +417,7 @@ before_rows d fits none bytes all fault from e =
     let p = count_law.takes bytes all r.0.0 r.0.1 r.1 in
     let left : AreBytes r.0.1 = AreBytes-rest p.0 r.0.1 (subst (λ (l : List ℕ). AreBytes l) p.2 all) in
     let q = rows_before d.grid None r.0.0 fits.sides tt r.0.1 left fault from r.2 in
-    let made : Statement = record d { rows = q.done } in
+    let made : CertificateModel = record d { rows = q.done } in
     let text : bytes ≡ (count_text r.0.0 ++ flat_map row_text q.done) ++ from = p.2 ∙ (λ i. p.1.is i ++ q.is i) ∙ sym (append_assoc (count_text r.0.0) (flat_map row_text q.done) from) in
     record {
       before = announcement r.0.0 made;
@@ -440,7 +440,7 @@ before_fault bytes all fault from e =
     ⊎_elim (λ failed. subst (λ (l : List ℕ). Precedent l from) (sym begun) (before_rows d p.1.fits p.1.bare r.0.1 left fault from failed))
     (λ s.
     let q = (all_rows_law d.grid p.1.fits.sides).takes r.0.1 left s.0.0 s.0.1 s.1 in
-    let made : Statement = record d { rows = s.0.0 } in
+    let made : CertificateModel = record d { rows = s.0.0 } in
     ⊎_elim
     (λ failed.
     let here : s.0.1 ≡ from = end_from s.0.1 fault from failed in
@@ -453,8 +453,8 @@ before_fault bytes all fault from e =
     })
     (λ t. absurd (never made t.0.1 t.2))
     (one_fails (end s.0.1) (λ (u : Unit {0}). give made) (fault, from) s.2))
-    (one_fails (all_rows d.grid r.0.1) (λ (rs : List (Position × ℕ)). end >>= λ u. give (record d { rows = rs })) (fault, from) r.2))
-    (one_fails (front bytes) (λ (d : Statement). all_rows d.grid >>= λ rs. end >>= λ u. give (record d { rows = rs })) (fault, from) e)
+    (one_fails (all_rows d.grid r.0.1) (λ (rs : List (BoardModel × ℕ)). end >>= λ u. give (record d { rows = rs })) (fault, from) r.2))
+    (one_fails (front bytes) (λ (d : CertificateModel). all_rows d.grid >>= λ rs. end >>= λ u. give (record d { rows = rs })) (fault, from) e)
   where
-    never : (c : Statement) (l : List ℕ) → fine c l ≡ faulty Statement fault from → ⊥
+    never : (c : CertificateModel) (l : List ℕ) → fine c l ≡ faulty CertificateModel fault from → ⊥
     never c l e = absurd cc

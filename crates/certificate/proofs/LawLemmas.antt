@@ -5,29 +5,29 @@ use Rattle.std.specs.Prelude.{IfSome, ◌↔◌}
 use Rattle.std.proofs.lemmas.Bool.{false≢true}
 use Rattle.std.proofs.lemmas.List.{append_cancel_left, append_cancel_right}
 use Rattle.std.specs.Io.KnownBytes.{Consumes}
-use Rattle.board.specs.Positions.{Position}
-use Rattle.board.specs.CostRules.{CostRule}
+use Rattle.board.specs.Boards.{BoardModel}
+use Rattle.board.specs.Weights.{WeightsModel}
 use Rattle.board.specs.declared.moves.Move.{Move}
-use Rattle.pattern_index.specs.Splits.{Split}
+use Rattle.pattern_index.specs.Partitions.{PartitionModel}
 use Rattle.byte_streams.specs.Streams.{SourceState, from_to, Change}
 use Rattle.byte_streams.specs.Source.{Takes}
 use Rattle.certificate.specs.declared.certificate.Version.{Version}
-use Rattle.certificate.specs.Certificates.{Statement}
+use Rattle.certificate.specs.Certificates.{CertificateModel}
 use Rattle.certificate.specs.Spellings.{Spells, spelling, front_text}
 use Rattle.certificate.specs.Fields.{SpellsBoard, SpellsClaimed, SpellsAllRows, SpellsBody, SpellsFront}
-use Rattle.certificate.specs.Sources.{Finds, FindsAll, IfFormat, is_failure, ReadsAll, Tells, IsAnswerTo, IsShown, StopsAtFault, ReadsCertificate}
+use Rattle.certificate.specs.Sources.{Finds, FindsAll, IfFormat, is_failure, ReadsAll, TellsOfInput, IsAnswerTo, IsShown, StopsAtFault, ReadsCertificate}
 use Rattle.certificate.specs.declared.faults.FormatFault.{FormatFault}
 use Rattle.certificate.specs.declared.faults.FormatFault.TheVariants.{OtherMagic, Truncated, OutOfRange, NotRising, BytesAfterEnd}
 use Rattle.certificate.specs.declared.faults.ReadFault.{ReadFault}
 use Rattle.certificate.specs.declared.faults.ReadFault.TheVariants.{Format, Failed, NoMemory}
-use Rattle.certificate.specs.Readings.{Reading, certificate, give, end, next_reading, IsFaultOf, IsFirstFault, HasNoFault}
+use Rattle.certificate.specs.Readings.{Reading, certificate, give, end, next_reading, IsFaultOf, IsFirstFormatFault, HasNoFault}
 use Rattle.certificate.specs.Laws.{AreBytes, TellsOfBytes}
 use Rattle.certificate.proofs.ReaderLemmas.{all_after, if_known, not_magic, not_range, not_order, not_after, fine, faulty}
 use Rattle.certificate.proofs.CertificateLemmas.{BodyParts, bare_of, body_there, with_rows, read_again, read_takes}
 
 -- ---- parts that were found one after the other: the boards, and what is claimed
 
-pub body_found : {a b c z : SourceState} {v : Version} {n : ℕ} {costs : CostRule} {split : Split} {start goal : Position} {found : ℕ × Option (List Move)} (bare : Statement) → Finds (SpellsBoard costs.grid) (from_to a b) start → Finds (SpellsBoard costs.grid) (from_to b c) goal → Finds (SpellsClaimed n) (from_to c z) found
+pub body_found : {a b c z : SourceState} {v : Version} {n : ℕ} {costs : WeightsModel} {split : PartitionModel} {start goal : BoardModel} {found : ℕ × Option (List Move)} (bare : CertificateModel) → Finds (SpellsBoard costs.grid) (from_to a b) start → Finds (SpellsBoard costs.grid) (from_to b c) goal → Finds (SpellsClaimed n) (from_to c z) found
     → bare ≡ bare_of v costs split start goal found → Finds (SpellsBody v n costs split) (from_to a z) bare
 body_found {a = a} {b = b} {c = c} {z = z} {v = v} {n = n} {costs = costs} {split = split} {start = start} {goal = goal} {found = found} bare s g f is =
     let boards = s.text ++ (g.text ++ f.text) in
@@ -41,7 +41,7 @@ body_found {a = a} {b = b} {c = c} {z = z} {v = v} {n = n} {costs = costs} {spli
 
 -- ---- the whole
 
-pub whole_found : {a b c z : SourceState} {front : Statement} {rows : List (Position × ℕ)} {none : Unit {0}} (whole : Statement) → Finds SpellsFront (from_to a b) front → Finds (SpellsAllRows front.grid) (from_to b c) rows → FindsAll {X = Unit {0}} (λ _ text. text ≡ []) (from_to c z) none
+pub whole_found : {a b c z : SourceState} {front : CertificateModel} {rows : List (BoardModel × ℕ)} {none : Unit {0}} (whole : CertificateModel) → Finds SpellsFront (from_to a b) front → Finds (SpellsAllRows front.grid) (from_to b c) rows → FindsAll {X = Unit {0}} (λ _ text. text ≡ []) (from_to c z) none
     → whole ≡ record front { rows = rows } → FindsAll Spells (from_to a z) whole
 whole_found {a = a} {b = b} {c = c} {z = z} {front = front} {rows = rows} whole f r e is =
     let text = f.text ++ (r.text ++ e.found.text) in
@@ -49,7 +49,7 @@ whole_found {a = a} {b = b} {c = c} {z = z} {front = front} {rows = rows} whole 
     record {
       found = record {
         text = text;
-        spells = subst (λ (s : Statement). Spells s text) (sym is) (with_rows front rows f.spells.fits r.spells.count r.spells.rows r.spells.rising, same);
+        spells = subst (λ (s : CertificateModel). Spells s text) (sym is) (with_rows front rows f.spells.fits r.spells.count r.spells.rows r.spells.rising, same);
         taken = Consumes-trans a.left b.left z.left f.text (r.text ++ e.found.text) f.taken (Consumes-trans b.left c.left z.left r.text e.found.text r.taken e.found.taken);
         on = (f.on.0, e.found.on.1);
       };
@@ -58,17 +58,17 @@ whole_found {a = a} {b = b} {c = c} {z = z} {front = front} {rows = rows} whole 
 
 -- ---- what follows of spellings and first faults
 
-never : (c : Statement) (l : List ℕ) (fault : FormatFault) (from : List ℕ) → fine c l ≡ faulty Statement fault from → ⊥
+never : (c : CertificateModel) (l : List ℕ) (fault : FormatFault) (from : List ℕ) → fine c l ≡ faulty CertificateModel fault from → ⊥
 never c l fault from e = absurd cc
 
-same_value : (c d : Statement) (l : List ℕ) → fine c l ≡ fine d l → d ≡ c
+same_value : (c d : CertificateModel) (l : List ℕ) → fine c l ≡ fine d l → d ≡ c
 same_value c d l e =
-    let p : Statement × List ℕ = (c, l) in
-    let q : Statement × List ℕ = (d, l) in
+    let p : CertificateModel × List ℕ = (c, l) in
+    let q : CertificateModel × List ℕ = (d, l) in
     let same : p ≡ q = cc in
-    ap (λ (z : Statement × List ℕ). z.0) (sym same)
+    ap (λ (z : CertificateModel × List ℕ). z.0) (sym same)
 
-same_fault : (f g : FormatFault) (l m : List ℕ) → faulty Statement f l ≡ faulty Statement g m → g ≡ f
+same_fault : (f g : FormatFault) (l m : List ℕ) → faulty CertificateModel f l ≡ faulty CertificateModel g m → g ≡ f
 same_fault f g l m e =
     let p : FormatFault × List ℕ = (f, l) in
     let q : FormatFault × List ℕ = (g, m) in
@@ -76,38 +76,38 @@ same_fault f g l m e =
     ap (λ (z : FormatFault × List ℕ). z.0) (sym same)
 
 -- what is spelled is read
-pub spelled_read : (bytes : List ℕ) (c : Statement) → Spells c bytes → certificate bytes ≡ fine c []
+pub spelled_read : (bytes : List ℕ) (c : CertificateModel) → Spells c bytes → certificate bytes ≡ fine c []
 unfolding end give
 spelled_read bytes c s = ap certificate (s.1 ∙ sym (append-nil (spelling c))) ∙ read_again c [] s.0
 
-pub spelled_or_faulty : (bytes : List ℕ) → AreBytes bytes → ((c : Statement) × Spells c bytes) ⊎ ((fault : FormatFault) × IsFirstFault bytes fault)
+pub spelled_or_faulty : (bytes : List ℕ) → AreBytes bytes → ((c : CertificateModel) × Spells c bytes) ⊎ ((fault : FormatFault) × IsFirstFormatFault bytes fault)
 spelled_or_faulty bytes all = by_cases (certificate bytes) refl
   where
-    by_cases : (r : Reading Statement) → certificate bytes ≡ r → ((c : Statement) × Spells c bytes) ⊎ ((fault : FormatFault) × IsFirstFault bytes fault)
+    by_cases : (r : Reading CertificateModel) → certificate bytes ≡ r → ((c : CertificateModel) × Spells c bytes) ⊎ ((fault : FormatFault) × IsFirstFormatFault bytes fault)
     by_cases (Ok p) e = inl (p.0, (read_takes bytes all p.0 p.1 e).0)
     by_cases (Err f) e = inr (f.0, (f.1, e))
 
-pub not_both : (bytes : List ℕ) (c : Statement) (fault : FormatFault) → Spells c bytes → IsFirstFault bytes fault → ⊥
+pub not_both : (bytes : List ℕ) (c : CertificateModel) (fault : FormatFault) → Spells c bytes → IsFirstFormatFault bytes fault → ⊥
 not_both bytes c fault s f = never c [] fault f.0 (sym (spelled_read bytes c s) ∙ f.1)
 
-pub one_first_fault : (bytes : List ℕ) (f g : FormatFault) → IsFirstFault bytes f → IsFirstFault bytes g → g ≡ f
+pub one_first_fault : (bytes : List ℕ) (f g : FormatFault) → IsFirstFormatFault bytes f → IsFirstFormatFault bytes g → g ≡ f
 one_first_fault bytes f g p q = same_fault f g p.0 q.0 (sym p.1 ∙ q.1)
 
-pub faultless : (bytes : List ℕ) → AreBytes bytes → HasNoFault certificate bytes ↔ (((c : Statement) × Spells c bytes) ⊎ IsFirstFault bytes Truncated)
+pub faultless : (bytes : List ℕ) → AreBytes bytes → HasNoFault certificate bytes ↔ (((c : CertificateModel) × Spells c bytes) ⊎ IsFirstFormatFault bytes Truncated)
 faultless bytes all = (λ none. there none (spelled_or_faulty bytes all), back)
   where
-    there : HasNoFault certificate bytes → ((c : Statement) × Spells c bytes) ⊎ ((fault : FormatFault) × IsFirstFault bytes fault) → ((c : Statement) × Spells c bytes) ⊎ IsFirstFault bytes Truncated
+    there : HasNoFault certificate bytes → ((c : CertificateModel) × Spells c bytes) ⊎ ((fault : FormatFault) × IsFirstFormatFault bytes fault) → ((c : CertificateModel) × Spells c bytes) ⊎ IsFirstFormatFault bytes Truncated
     there none (inl spelled) = inl spelled
-    there none (inr (fault, f)) = inr (subst (λ (g : FormatFault). IsFirstFault bytes g) (none fault f) f)
+    there none (inr (fault, f)) = inr (subst (λ (g : FormatFault). IsFirstFormatFault bytes g) (none fault f) f)
 
-    back : ((c : Statement) × Spells c bytes) ⊎ IsFirstFault bytes Truncated → HasNoFault certificate bytes
+    back : ((c : CertificateModel) × Spells c bytes) ⊎ IsFirstFormatFault bytes Truncated → HasNoFault certificate bytes
     back (inl (c, s)) = λ fault f. absurd (not_both bytes c fault s f)
     back (inr cut) = λ fault f. one_first_fault bytes Truncated fault cut f
 
-pub one_certificate : (c d : Statement) (bytes : List ℕ) → Spells c bytes → Spells d bytes → d ≡ c
+pub one_certificate : (c d : CertificateModel) (bytes : List ℕ) → Spells c bytes → Spells d bytes → d ≡ c
 one_certificate c d bytes s t = same_value c d [] (sym (spelled_read bytes c s) ∙ spelled_read bytes d t)
 
-pub none_begins_another : (c d : Statement) (bytes more : List ℕ) → Spells c bytes → Spells d (bytes ++ more) → (more ≡ []) × (d ≡ c)
+pub none_begins_another : (c d : CertificateModel) (bytes more : List ℕ) → Spells c bytes → Spells d (bytes ++ more) → (more ≡ []) × (d ≡ c)
 unfolding end give
 none_begins_another c d bytes more s t = by_cases more (sym (ap (λ (l : List ℕ). certificate (l ++ more)) s.1 ∙ read_again c more s.0) ∙ spelled_read (bytes ++ more) d t)
   where
@@ -117,9 +117,9 @@ none_begins_another c d bytes more s t = by_cases more (sym (ap (λ (l : List �
 
 -- ---- what is answered
 
-decided : (result : Result Statement ReadFault) (input : List ℕ) → Tells result input → IsAnswerTo result input
+decided : (result : Result CertificateModel ReadFault) (input : List ℕ) → TellsOfInput result input → IsAnswerTo result input
 decided (Ok d) input tells = record {
-  spelled = λ c s. inl (ap (λ (z : Statement). Ok z) (one_certificate c d input s tells));
+  spelled = λ c s. inl (ap (λ (z : CertificateModel). Ok z) (one_certificate c d input s tells));
   faulty = λ fault f. absurd (not_both input d fault tells f);
 }
 decided (Err (Format g)) input tells = record {
@@ -129,22 +129,22 @@ decided (Err (Format g)) input tells = record {
 decided (Err Failed) input tells = record { spelled = λ c s. inr (inl refl); faulty = λ fault f. inr (inl refl) }
 decided (Err (NoMemory refused)) input tells = record { spelled = λ c s. inr (inr (refused, refl)); faulty = λ fault f. inr (inr (refused, refl)) }
 
-all_decided : (result : Result Statement ReadFault) (left : Option (List ℕ)) → IfSome left (Tells result) → IfSome left (IsAnswerTo result)
+all_decided : (result : Result CertificateModel ReadFault) (left : Option (List ℕ)) → IfSome left (TellsOfInput result) → IfSome left (IsAnswerTo result)
 all_decided result None tells = tt
 all_decided result (Some input) tells = decided result input tells
 
 -- what was read is what the input spells
-told : (c : Statement) (source : Change SourceState) → FindsAll Spells source c → IfSome source.before.left (Tells (Ok c))
+told : (c : CertificateModel) (source : Change SourceState) → FindsAll Spells source c → IfSome source.before.left (TellsOfInput (Ok c))
 told c source all = if_known source.before.left (λ input. input ≡ all.found.text) (λ input. Spells c input) (λ input is. subst (λ (l : List ℕ). Spells c l) (sym is) all.found.spells) all.whole
 
 -- a fault is the first of the input
-faulted : (f : ReadFault) (left : Option (List ℕ)) → IfFormat f (λ g. IfSome left (λ input. IsFaultOf certificate input g)) → IfSome left (Tells (Err f))
+faulted : (f : ReadFault) (left : Option (List ℕ)) → IfFormat f (λ g. IfSome left (λ input. IsFaultOf certificate input g)) → IfSome left (TellsOfInput (Err f))
 faulted f None first = tt
 faulted (Format g) (Some input) first = first
 faulted Failed (Some input) first = tt
 faulted (NoMemory refused) (Some input) first = tt
 
-abbrev refusal : ReadFault → Result Statement ReadFault
+abbrev refusal : ReadFault → Result CertificateModel ReadFault
 refusal f = Err f
 
 fails_exactly : (f : ReadFault) (has_failed : Bool) → has_failed ≡ is_failure f → (refusal f ≡ Err Failed) ↔ (has_failed ≡ true)
@@ -152,7 +152,7 @@ fails_exactly (Format g) has_failed is = (λ e. absurd cc, λ t. absurd (false�
 fails_exactly Failed has_failed is = (λ e. is, λ t. refl)
 fails_exactly (NoMemory refused) has_failed is = (λ e. absurd cc, λ t. absurd (false≢true (sym is ∙ t)))
 
-pub certificate_read : (source : Change SourceState) (result : Result Statement ReadFault) → ReadsAll certificate Spells source result → ReadsCertificate source result
+pub certificate_read : (source : Change SourceState) (result : Result CertificateModel ReadFault) → ReadsAll certificate Spells source result → ReadsCertificate source result
 certificate_read source (Ok c) all =
     let tells = told c source all in
     record {
@@ -181,13 +181,13 @@ same_bytes a b bytes left seen was is taken =
     let known : Consumes (Some (bytes ++ left)) (Some left) seen = subst (λ (o : Option (List ℕ)). Consumes (Some (bytes ++ left)) o seen) is (subst (λ (o : Option (List ℕ)). Consumes o b seen) was taken) in
     append_cancel_right seen bytes left (sym known)
 
-pub told_of_bytes : (source : Change SourceState) (result : Result Statement ReadFault) (bytes left : List ℕ) → source.before.left ≡ Some (bytes ++ left) → source.after.left ≡ Some left → ReadsCertificate source result → TellsOfBytes result bytes
+pub told_of_bytes : (source : Change SourceState) (result : Result CertificateModel ReadFault) (bytes left : List ℕ) → source.before.left ≡ Some (bytes ++ left) → source.after.left ≡ Some left → ReadsCertificate source result → TellsOfBytes result bytes
 told_of_bytes source (Ok c) bytes left was is reads =
-    let spells : Spells c (bytes ++ left) = subst (λ (o : Option (List ℕ)). IfSome o (Tells (Ok c))) was reads.tells in
+    let spells : Spells c (bytes ++ left) = subst (λ (o : Option (List ℕ)). IfSome o (TellsOfInput (Ok c))) was reads.tells in
     (spells.0, sym (same_bytes source.before.left source.after.left bytes left (spelling c) was is reads.taken))
 told_of_bytes source (Err (Format fault)) bytes left was is reads =
     let p = reads.stops in
-    subst (λ (l : List ℕ). IsFirstFault l fault) (same_bytes source.before.left source.after.left bytes left p.seen was is p.taken) p.is
+    subst (λ (l : List ℕ). IsFirstFormatFault l fault) (same_bytes source.before.left source.after.left bytes left p.seen was is p.taken) p.is
 told_of_bytes source (Err Failed) bytes left was is reads =
     let p = reads.stops in
     subst (λ (l : List ℕ). HasNoFault certificate l) (same_bytes source.before.left source.after.left bytes left p.seen was is p.taken) p.stops

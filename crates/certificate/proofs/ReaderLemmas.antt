@@ -12,9 +12,9 @@ use Rattle.std.specs.Str.{bytes_eq}
 use Rattle.std.specs.List.{flat_map}
 use Rattle.std.proofs.lemmas.List.Concat.{flat_map-cons, flat_map-append}
 use Rattle.board.specs.declared.moves.Move.{Move}
-use Rattle.board.specs.Positions.{Position}
+use Rattle.board.specs.Boards.{BoardModel}
 use Rattle.board.specs.Letters.{letter_of}
-use Rattle.pattern_index.specs.Selections.{Selection}
+use Rattle.pattern_index.specs.Groups.{GroupModel}
 use Rattle.byte_streams.specs.Streams.{SourceState, Change, from_to, SinkState}
 use Rattle.byte_streams.specs.Source.{Takes, ReadsOn, TakesNone, IsEnded}
 use Rattle.byte_streams.specs.Sink.{WritesAll, FailsWriting, Writes}
@@ -26,7 +26,7 @@ use Rattle.certificate.specs.Laws.{AreBytes}
 use Rattle.certificate.specs.declared.faults.ReadFault.{ReadFault}
 use Rattle.certificate.specs.declared.faults.ReadFault.TheVariants.{Format, Failed, NoMemory}
 use Rattle.certificate.specs.Spellings.{number_text, count_text, group_text, row_text}
-use Rattle.certificate.specs.Sources.{IfFormat, EndsEarly, TakesDue, Finds, Stops, Refuses, Reads, RefusesAtEnd, ReadsAll, FindsAll}
+use Rattle.certificate.specs.Sources.{IfFormat, EndsEarly, TakesDue, Finds, StopsAt, RefusesInput, ReadsField, RefusesAtEnd, ReadsAll, FindsAll}
 
 -- ---- readers: what spells a value is read as that value, and what stands before a fault begins a text of the reader
 
@@ -221,9 +221,9 @@ if_format (NoMemory refused) P Q h p = tt
 
 -- ---- the exit of a `?` passes the fault on
 
-pub passed : {X Y : Type 0} (reader : Reader Y) (IsText : X → List ℕ → Type 0) (source : Change SourceState) (r : Result X ReadFault) (e : ReadFault) → IsErrAnd r (λ y. y ≡ e) → Refuses reader source e → Reads reader IsText source r
+pub passed : {X Y : Type 0} (reader : Reader Y) (IsText : X → List ℕ → Type 0) (source : Change SourceState) (r : Result X ReadFault) (e : ReadFault) → IsErrAnd r (λ y. y ≡ e) → RefusesInput reader source e → ReadsField reader IsText source r
 passed reader IsText source (Ok x) e is refuses = absurd is
-passed reader IsText source (Err y) e is refuses = subst (λ (f : ReadFault). Refuses reader source f) (sym is) refuses
+passed reader IsText source (Err y) e is refuses = subst (λ (f : ReadFault). RefusesInput reader source f) (sym is) refuses
 
 pub passed_due : {X : Type 0} (n : ℕ) (text : X → List ℕ) (source : Change SourceState) (r : Result X ReadFault) (e : ReadFault) → IsErrAnd r (λ y. y ≡ e) → EndsEarly source n e → TakesDue n text source r
 passed_due n text source (Ok x) e is early = absurd is
@@ -296,7 +296,7 @@ abbrev Ends : Change SourceState → List ℕ → FormatFault → Type 0
 Ends source seen fault = (fault ≡ Truncated) × IfSome source.before.left (λ input. input ≡ seen)
 
 -- fewer bytes are left than the field has
-pub cut_short : {X : Type 0} (fault : FormatFault) (n : ℕ) (value : List ℕ → Option X) (source : Change SourceState) (f : ReadFault) → EndsEarly source n f → Refuses (field fault n value) source f
+pub cut_short : {X : Type 0} (fault : FormatFault) (n : ℕ) (value : List ℕ → Option X) (source : Change SourceState) (f : ReadFault) → EndsEarly source n f → RefusesInput (field fault n value) source f
 cut_short fault n value source f early = record {
   seen = early.seen;
   taken = early.taken;
@@ -312,13 +312,13 @@ cut_short fault n value source f early = record {
     cut : IsCutOff (field fault n value) early.seen
     cut = (early.seen, field_short fault n value early.seen early.short)
 
-    stopped : (g : ReadFault) → IfFormat g (λ h. Ends source early.seen h) → Stops (λ bytes. IsCutOff (field fault n value) bytes) source early.seen g
+    stopped : (g : ReadFault) → IfFormat g (λ h. Ends source early.seen h) → StopsAt (λ bytes. IsCutOff (field fault n value) bytes) source early.seen g
     stopped (Format g) is_end = record { at_end = λ _. is_end.1; at_byte = λ other. absurd (other is_end.0) }
     stopped Failed is_end = cut
     stopped (NoMemory refused) is_end = cut
 
 -- the field is there, and its bytes have no value
-pub refused : {X : Type 0} (fault : FormatFault) → fault ≢ Truncated → (n : ℕ) → 0 < n → (value : List ℕ → Option X) (source : Change SourceState) (text : List ℕ) → Takes source text × ReadsOn source → length text ≡ n → value text ≡ None → Refuses (field fault n value) source (Format fault)
+pub refused : {X : Type 0} (fault : FormatFault) → fault ≢ Truncated → (n : ℕ) → 0 < n → (value : List ℕ → Option X) (source : Change SourceState) (text : List ℕ) → Takes source text × ReadsOn source → length text ≡ n → value text ≡ None → RefusesInput (field fault n value) source (Format fault)
 refused fault whole n some value source text taken len none = record {
   seen = text;
   taken = taken.0;
@@ -398,12 +398,12 @@ writes_within Q a b c before here after whole r parts sent is fails =
 pub letters_cut : (plan : List Move) (i : ℕ) (d : Move) → i < length plan → map letter_of plan ≡ map letter_of (take i plan) ++ ((letter_of (get_or plan i d) ∷ []) ++ map letter_of (drop (i + 1) plan))
 letters_cut plan i d within = ap (map letter_of) (sym (take-append-drop i plan)) ∙ map-append letter_of (take i plan) (drop i plan) ∙ ap (λ (l : List Move). map letter_of (take i plan) ++ map letter_of l) (drop_more plan i d within)
 
-pub groups_cut : (groups : List Selection) (i : ℕ) (d : Selection) → i < length groups → flat_map group_text groups ≡ flat_map group_text (take i groups) ++ (group_text (get_or groups i d) ++ flat_map group_text (drop (i + 1) groups))
+pub groups_cut : (groups : List GroupModel) (i : ℕ) (d : GroupModel) → i < length groups → flat_map group_text groups ≡ flat_map group_text (take i groups) ++ (group_text (get_or groups i d) ++ flat_map group_text (drop (i + 1) groups))
 groups_cut groups i d within =
     ap (flat_map group_text) (sym (take-append-drop i groups)) ∙ flat_map-append group_text (take i groups) (drop i groups)
     ∙ ap (λ (l : List ℕ). flat_map group_text (take i groups) ++ l) (ap (flat_map group_text) (drop_more groups i d within) ∙ flat_map-cons group_text (get_or groups i d) (drop (i + 1) groups))
 
-pub rows_cut : (rows : List (Position × ℕ)) (i : ℕ) (d : Position × ℕ) → i < length rows → flat_map row_text rows ≡ flat_map row_text (take i rows) ++ (row_text (get_or rows i d) ++ flat_map row_text (drop (i + 1) rows))
+pub rows_cut : (rows : List (BoardModel × ℕ)) (i : ℕ) (d : BoardModel × ℕ) → i < length rows → flat_map row_text rows ≡ flat_map row_text (take i rows) ++ (row_text (get_or rows i d) ++ flat_map row_text (drop (i + 1) rows))
 rows_cut rows i d within =
     ap (flat_map row_text) (sym (take-append-drop i rows)) ∙ flat_map-append row_text (take i rows) (drop i rows)
     ∙ ap (λ (l : List ℕ). flat_map row_text (take i rows) ++ l) (ap (flat_map row_text) (drop_more rows i d within) ∙ flat_map-cons row_text (get_or rows i d) (drop (i + 1) rows))

@@ -7,11 +7,11 @@ use Rattle.std.proofs.lemmas.List.{drop_more, take-append-drop}
 use Rattle.std.proofs.lemmas.List.Concat.{flat_map-cons}
 use Rattle.std.proofs.lemmas.List.Elements.{All-tail}
 use Rattle.board.specs.declared.moves.Move.{Move}
-use Rattle.board.specs.Grids.{Grid, IsShape}
+use Rattle.board.specs.Shapes.{ShapeModel, IsShape}
 use Rattle.board.specs.declared.costs.TheConstants.{GREATEST_COST}
-use Rattle.board.specs.Positions.{Position}
-use Rattle.pattern_index.specs.Selections.{Selection, IsSelection}
-use Rattle.pattern_index.specs.Splits.{AreApart}
+use Rattle.board.specs.Boards.{BoardModel}
+use Rattle.pattern_index.specs.Groups.{GroupModel, IsGroup}
+use Rattle.pattern_index.specs.Partitions.{AreApart}
 use Rattle.certificate.specs.Fields.{SpellsBoard, SpellsGroup, SpellsNumber, SpellsRow}
 use Rattle.certificate.specs.declared.faults.FormatFault.{FormatFault}
 use Rattle.certificate.specs.declared.faults.ReadFault.{ReadFault}
@@ -25,7 +25,7 @@ use Rattle.certificate.specs.Readings.{Reader, ◌>>=◌, next_reading, give, as
 use Rattle.byte_streams.specs.Streams.{SourceState, Change}
 use Rattle.byte_streams.specs.Source.{Takes}
 use Rattle.byte_streams.specs.Streams.{from_to}
-use Rattle.certificate.specs.Sources.{Finds, Stops, RefusesAt, Refuses, Reads, RefusesAtEnd}
+use Rattle.certificate.specs.Sources.{Finds, StopsAt, RefusesAt, RefusesInput, ReadsField, RefusesAtEnd}
 use Rattle.certificate.proofs.ReaderLemmas.{if_begun, if_left, if_format, all_after, field_short, last_split, not_order, Law, fine, faulty, one_fails}
 use Rattle.certificate.proofs.TextLemmas.{letter_law, board_law, number_law, four_bytes}
 use Rattle.certificate.proofs.RowLemmas.{row_law, sides_of, IsBefore}
@@ -33,7 +33,7 @@ use Rattle.certificate.proofs.GroupLemmas.{apart_pushed, first_group, group_law,
 
 -- ---- what is passed on from a later reader to the whole
 
-stops_carried : (B C : List ℕ → Type 0) (text : List ℕ) (a b c : SourceState) → Takes (from_to a b) text → ((l : List ℕ) → B l → C (text ++ l)) → (seen : List ℕ) (f : ReadFault) → Stops B (from_to b c) seen f → Stops C (from_to a c) (text ++ seen) f
+stops_carried : (B C : List ℕ → Type 0) (text : List ℕ) (a b c : SourceState) → Takes (from_to a b) text → ((l : List ℕ) → B l → C (text ++ l)) → (seen : List ℕ) (f : ReadFault) → StopsAt B (from_to b c) seen f → StopsAt C (from_to a c) (text ++ seen) f
 stops_carried B C text a b c taken sound seen (Format g) w = record {
   at_end = λ e. all_after a.left b.left text seen taken (w.at_end e);
   at_byte = λ other. let p = w.at_byte other in (text ++ p.0, p.1, ap (λ (l : List ℕ). text ++ l) p.2 ∙ sym (append_assoc text p.0 (p.1 ∷ [])), sound p.0 p.3);
@@ -54,24 +54,24 @@ carried r s B C text a b c f taken fault sound w = record {
 }
 
 -- where what a reader finds wrong is wrong in the whole
-carried_cut : {X Y : Type 0} (r : Reader X) (s : Reader Y) (text : List ℕ) (a b c : SourceState) (f : ReadFault) → Takes (from_to a b) text → ((l : List ℕ) (g : FormatFault) → IsFaultOf r l g → IsFaultOf s (text ++ l) g) → Refuses r (from_to b c) f → Refuses s (from_to a c) f
+carried_cut : {X Y : Type 0} (r : Reader X) (s : Reader Y) (text : List ℕ) (a b c : SourceState) (f : ReadFault) → Takes (from_to a b) text → ((l : List ℕ) (g : FormatFault) → IsFaultOf r l g → IsFaultOf s (text ++ l) g) → RefusesInput r (from_to b c) f → RefusesInput s (from_to a c) f
 carried_cut r s text a b c f taken fault w = carried r s (λ bytes. IsCutOff r bytes) (λ bytes. IsCutOff s bytes) text a b c f taken fault (λ l cut. fault l Truncated cut) w
 
 first_fault : {X Y : Type 0} (a : Reader X) (k : X → Reader Y) (l : List ℕ) (g : FormatFault) → IsFaultOf a l g → IsFaultOf (a >>= k) l g
 unfolding ◌>>=◌
 first_fault a k l g p = (p.0, ap (next_reading k) p.1)
 
-pub first_refuses : {X Y : Type 0} {a : Reader X} (k : X → Reader Y) {source : Change SourceState} {f : ReadFault} → Refuses a source f → Refuses (a >>= k) source f
+pub first_refuses : {X Y : Type 0} {a : Reader X} (k : X → Reader Y) {source : Change SourceState} {f : ReadFault} → RefusesInput a source f → RefusesInput (a >>= k) source f
 first_refuses {a = a} k {source = source} {f = f} r = carried_cut a (a >>= k) [] source.before source.before source.after f (Consumes-nil source.before.left) (λ l g p. first_fault a k l g p) r
 
 again_at : {X Y : Type 0} (a : Reader X) (k : X → Reader Y) (A : X → List ℕ → Type 0) → Law a A → (x : X) (text : List ℕ) → A x text → (l : List ℕ) → (a >>= k) (text ++ l) ≡ k x l
 unfolding ◌>>=◌
 again_at a k A law x text t l = ap (next_reading k) (law.again x text l t)
 
-pub then_refuses : {X Y : Type 0} {a : Reader X} (k : X → Reader Y) {A : X → List ℕ → Type 0} {old mid new : SourceState} {f : ReadFault} {x : X} → Law a A → Finds A (from_to old mid) x → Refuses (k x) (from_to mid new) f → Refuses (a >>= k) (from_to old new) f
+pub then_refuses : {X Y : Type 0} {a : Reader X} (k : X → Reader Y) {A : X → List ℕ → Type 0} {old mid new : SourceState} {f : ReadFault} {x : X} → Law a A → Finds A (from_to old mid) x → RefusesInput (k x) (from_to mid new) f → RefusesInput (a >>= k) (from_to old new) f
 then_refuses {a = a} k {A = A} {old = old} {mid = mid} {new = new} {f = f} {x = x} law p r = carried_cut (k x) (a >>= k) p.text old mid new f p.taken (λ l g q. (q.0, again_at a k A law x p.text p.spells l ∙ q.1)) r
 
-pub as_one_refuses : {X : Type 0} {r : Reader X} {source : Change SourceState} {f : ReadFault} → Refuses r source f → Refuses (as_one r) source f
+pub as_one_refuses : {X : Type 0} {r : Reader X} {source : Change SourceState} {f : ReadFault} → RefusesInput r source f → RefusesInput (as_one r) source f
 unfolding as_one
 as_one_refuses {r = reader} {source = source} {f = f} r = carried_cut reader (as_one reader) [] source.before source.before source.after f (Consumes-nil source.before.left) (λ l g p. blamed_at l g p) r
   where
@@ -94,7 +94,7 @@ found_after {a = a} {b = b} {c = c} h p q = record {
 
 -- a first field was found, and a second reader ends the whole
 pub reads_after : {X Y Z : Type 0} {a : Reader X} (k : X → Reader Y) {A : X → List ℕ → Type 0} (B C : Z → List ℕ → Type 0) {old mid : SourceState} (new : SourceState) {x : X} (r : Result Z ReadFault)
-    → Law a A → ((z : Z) (s t : List ℕ) → A x s → B z t → C z (s ++ t)) → Finds A (from_to old mid) x → Reads (k x) B (from_to mid new) r → Reads (a >>= k) C (from_to old new) r
+    → Law a A → ((z : Z) (s t : List ℕ) → A x s → B z t → C z (s ++ t)) → Finds A (from_to old mid) x → ReadsField (k x) B (from_to mid new) r → ReadsField (a >>= k) C (from_to old new) r
 reads_after k B C new (Ok z) law both p q = found_after (both z) p q
 reads_after k B C new (Err f) law both p q = then_refuses k law p q
 
@@ -108,7 +108,7 @@ one_fault {X = X} r l f g p q =
     let same : x ≡ y = cc in
     ap (λ (z : FormatFault × List ℕ). z.0) (sym same)
 
-pub before_end : {X : Type 0} {r : Reader X} {source : Change SourceState} {f : ReadFault} → Refuses r source f → RefusesAtEnd r source f
+pub before_end : {X : Type 0} {r : Reader X} {source : Change SourceState} {f : ReadFault} → RefusesInput r source f → RefusesAtEnd r source f
 before_end {r = reader} {source = source} {f = f} r =
     carried reader reader (λ bytes. IsCutOff reader bytes) (λ bytes. HasNoFault reader bytes) [] source.before source.before source.after f (Consumes-nil source.before.left) (λ l g p. p) (λ l cut g p. one_fault reader l Truncated g cut p) r
 
@@ -132,25 +132,25 @@ end_refuses {Y = Y} value {source = source} {f = f} r =
 
 -- ---- a row that does not come after the one before it
 
-row_falls : (grid : Grid) (before : Option Position) → IsShape grid → (b : Position) (n : ℕ) → IsBoardOf grid b → IsWithinLimit n → may_follow before b ≡ false → (rest : List ℕ) → IsFaultOf (row grid before) (b.tiles ++ (number_text n ++ rest)) NotRising
+row_falls : (grid : ShapeModel) (before : Option BoardModel) → IsShape grid → (b : BoardModel) (n : ℕ) → IsBoardOf grid b → IsWithinLimit n → may_follow before b ≡ false → (rest : List ℕ) → IsFaultOf (row grid before) (b.tiles ++ (number_text n ++ rest)) NotRising
 unfolding row row_order as_one
 row_falls grid before sides b n is within falls rest =
     let bytes = b.tiles ++ (number_text n ++ rest) in
-    let late : row_order before (b, n) rest ≡ faulty (Position × ℕ) NotRising rest = ap (λ (up : Bool). cond up (fine (b, n) rest) (faulty (Position × ℕ) NotRising rest)) falls in (
+    let late : row_order before (b, n) rest ≡ faulty (BoardModel × ℕ) NotRising rest = ap (λ (up : Bool). cond up (fine (b, n) rest) (faulty (BoardModel × ℕ) NotRising rest)) falls in (
       bytes,
       ap (whole_reading bytes)
           (again_at (board grid) (λ b. number >>= λ n. row_order before (b, n)) (SpellsBoard grid) (board_law grid sides) b b.tiles (record { board = is; is = refl }) (number_text n ++ rest)
           ∙ again_at number (λ n. row_order before (b, n)) SpellsNumber number_law n (number_text n) (record { within = within; is = refl }) rest ∙ late),
     )
 
-row_cut : (grid : Grid) (before : Option Position) → IsShape grid → (b : Position) → IsBoardOf grid b → (rest : List ℕ) → length rest < 4 → IsCutOff (row grid before) (b.tiles ++ rest)
+row_cut : (grid : ShapeModel) (before : Option BoardModel) → IsShape grid → (b : BoardModel) → IsBoardOf grid b → (rest : List ℕ) → length rest < 4 → IsCutOff (row grid before) (b.tiles ++ rest)
 unfolding row as_one
 row_cut grid before sides b is rest few =
     let bytes = b.tiles ++ rest in
     let cut = first_fault number (λ n. row_order before (b, n)) rest Truncated (rest, field_short OutOfRange 4 (number_in GREATEST_COST) rest few) in
     (bytes, ap (whole_reading bytes) (again_at (board grid) (λ b. number >>= λ n. row_order before (b, n)) (SpellsBoard grid) (board_law grid sides) b b.tiles (record { board = is; is = refl }) rest ∙ cut.1))
 
-pub row_refuses : (grid : Grid) (before : Option Position) (b : Position) (n : ℕ) (old mid new : SourceState) → Finds (SpellsBoard grid) (from_to old mid) b → Finds SpellsNumber (from_to mid new) n → may_follow before b ≡ false → Refuses (row grid before) (from_to old new) (Format NotRising)
+pub row_refuses : (grid : ShapeModel) (before : Option BoardModel) (b : BoardModel) (n : ℕ) (old mid new : SourceState) → Finds (SpellsBoard grid) (from_to old mid) b → Finds SpellsNumber (from_to mid new) n → may_follow before b ≡ false → RefusesInput (row grid before) (from_to old new) (Format NotRising)
 row_refuses grid before b n old mid new p q falls =
     let is = p.spells.board in
     let sides = sides_of grid b is in
@@ -181,59 +181,59 @@ letters_at (m ∷ done) (suc n) rest f fewer fails =
     ap (next_reading (λ m. letters n >>= λ ms. give (m ∷ ms))) (letter_law.again m (letter_of m ∷ []) (map letter_of done ++ rest) refl)
     ∙ ap (next_reading (λ ms. give (m ∷ ms))) (letters_at done n rest f (omega (arith, fewer)) fails)
 
-pub letters_refuse : (done : List Move) (n : ℕ) (old mid new : SourceState) (f : ReadFault) → length done < n → Takes (from_to old mid) (map letter_of done) → Refuses letter (from_to mid new) f → Refuses (letters n) (from_to old new) f
+pub letters_refuse : (done : List Move) (n : ℕ) (old mid new : SourceState) (f : ReadFault) → length done < n → Takes (from_to old mid) (map letter_of done) → RefusesInput letter (from_to mid new) f → RefusesInput (letters n) (from_to old new) f
 letters_refuse done n old mid new f fewer taken r = carried_cut letter (letters n) (map letter_of done) old mid new f taken (λ l g p. (p.0, letters_at done n l (g, p.0) fewer p.1)) r
 
 -- ---- several groups
 
-pub groups_text_pushed : (gs : List Selection) (g : Selection) → flat_map group_text (gs ++ g ∷ []) ≡ flat_map group_text gs ++ group_text g
+pub groups_text_pushed : (gs : List GroupModel) (g : GroupModel) → flat_map group_text (gs ++ g ∷ []) ≡ flat_map group_text gs ++ group_text g
 groups_text_pushed [] g = flat_map-cons group_text g [] ∙ append-nil (group_text g)
 groups_text_pushed (h ∷ gs) g = flat_map-cons group_text h (gs ++ g ∷ []) ∙ ap (λ (l : List ℕ). group_text h ++ l) (groups_text_pushed gs g) ∙ sym (append_assoc (group_text h) (flat_map group_text gs) (group_text g)) ∙ ap (λ (l : List ℕ). l ++ group_text g) (sym (flat_map-cons group_text h gs))
 
-groups_at : (grid : Grid) (before done : List Selection) (n : ℕ) (rest : List ℕ) (f : FormatFault × List ℕ) → AreApart before → length done < n → All (λ g. IsSelection g) done → All (λ g. g.grid ≡ grid) done → AreApart (before ++ done)
+groups_at : (grid : ShapeModel) (before done : List GroupModel) (n : ℕ) (rest : List ℕ) (f : FormatFault × List ℕ) → AreApart before → length done < n → All (λ g. IsGroup g) done → All (λ g. g.grid ≡ grid) done → AreApart (before ++ done)
     → group grid (before ++ done) rest ≡ Err f → groups grid before n (flat_map group_text done ++ rest) ≡ Err f
 unfolding groups ◌>>=◌
 groups_at grid before done zero rest f apart fewer all sides both fails = absurd (omega (arith, fewer))
 groups_at grid before [] (suc n) rest f apart fewer all sides both fails =
-    ap (next_reading (λ first. groups grid (before ++ first ∷ []) n >>= λ others. give (first ∷ others))) (subst (λ (l : List Selection). group grid l rest ≡ Err f) (append-nil before) fails)
+    ap (next_reading (λ first. groups grid (before ++ first ∷ []) n >>= λ others. give (first ∷ others))) (subst (λ (l : List GroupModel). group grid l rest ≡ Err f) (append-nil before) fails)
 groups_at grid before (g ∷ done) (suc n) rest f apart fewer all sides both fails =
     let text : flat_map group_text (g ∷ done) ++ rest ≡ group_text g ++ (flat_map group_text done ++ rest) = ap (λ (l : List ℕ). l ++ rest) (flat_map-cons group_text g done) ∙ append_assoc (group_text g) (flat_map group_text done) rest in
     let t : SpellsGroup grid before g (group_text g) = first_group grid before g done all sides both in
-    let more : AreApart ((before ++ g ∷ []) ++ done) = subst (λ (l : List Selection). AreApart l) (sym (append_assoc before (g ∷ []) done)) both in
-    let later : group grid ((before ++ g ∷ []) ++ done) rest ≡ Err f = subst (λ (l : List Selection). group grid l rest ≡ Err f) (sym (append_assoc before (g ∷ []) done)) fails in
+    let more : AreApart ((before ++ g ∷ []) ++ done) = subst (λ (l : List GroupModel). AreApart l) (sym (append_assoc before (g ∷ []) done)) both in
+    let later : group grid ((before ++ g ∷ []) ++ done) rest ≡ Err f = subst (λ (l : List GroupModel). group grid l rest ≡ Err f) (sym (append_assoc before (g ∷ []) done)) fails in
     ap (groups grid before (suc n)) text
     ∙ ap (next_reading (λ first. groups grid (before ++ first ∷ []) n >>= λ others. give (first ∷ others))) ((group_law grid before (shape_of grid before g t.next)).again g (group_text g) (flat_map group_text done ++ rest) t)
     ∙ ap (next_reading (λ others. give (g ∷ others)))
-    (groups_at grid (before ++ g ∷ []) done n rest f (apart_pushed before g apart t.next.apart) (omega (arith, fewer)) (All-tail (λ (h : Selection). IsSelection h) g done all) (All-tail (λ (h : Selection). h.grid ≡ grid) g done sides) more later)
+    (groups_at grid (before ++ g ∷ []) done n rest f (apart_pushed before g apart t.next.apart) (omega (arith, fewer)) (All-tail (λ (h : GroupModel). IsGroup h) g done all) (All-tail (λ (h : GroupModel). h.grid ≡ grid) g done sides) more later)
 
-pub groups_refuse : (grid : Grid) (done : List Selection) (n : ℕ) (old mid new : SourceState) (f : ReadFault) → length done < n → All (λ g. IsSelection g) done → All (λ g. g.grid ≡ grid) done → AreApart done
-    → Takes (from_to old mid) (flat_map group_text done) → Refuses (group grid done) (from_to mid new) f → Refuses (groups grid [] n) (from_to old new) f
+pub groups_refuse : (grid : ShapeModel) (done : List GroupModel) (n : ℕ) (old mid new : SourceState) (f : ReadFault) → length done < n → All (λ g. IsGroup g) done → All (λ g. g.grid ≡ grid) done → AreApart done
+    → Takes (from_to old mid) (flat_map group_text done) → RefusesInput (group grid done) (from_to mid new) f → RefusesInput (groups grid [] n) (from_to old new) f
 groups_refuse grid done n old mid new f fewer all sides apart taken r = carried_cut (group grid done) (groups grid [] n) (flat_map group_text done) old mid new f taken (λ l g p. (p.0, groups_at grid [] done n l (g, p.0) none_apart fewer all sides apart p.1)) r
 
 -- ---- several rows
 
 -- the board of the last row
-abbrev pub last_of : Option Position → List (Position × ℕ) → Option Position
+abbrev pub last_of : Option BoardModel → List (BoardModel × ℕ) → Option BoardModel
 last_of before [] = before
 last_of before (r ∷ rs) = last_of (Some r.0) rs
 
-pub last_pushed : (before : Option Position) (rs : List (Position × ℕ)) (r : Position × ℕ) → last_of before (rs ++ r ∷ []) ≡ Some r.0
+pub last_pushed : (before : Option BoardModel) (rs : List (BoardModel × ℕ)) (r : BoardModel × ℕ) → last_of before (rs ++ r ∷ []) ≡ Some r.0
 last_pushed before [] r = refl
 last_pushed before (s ∷ rs) r = last_pushed (Some s.0) rs r
 
-pub rise_pushed : (before : Option Position) (rs : List (Position × ℕ)) (r : Position × ℕ) → RiseAfter before rs → Follows (last_of before rs) r.0 → RiseAfter before (rs ++ r ∷ [])
+pub rise_pushed : (before : Option BoardModel) (rs : List (BoardModel × ℕ)) (r : BoardModel × ℕ) → RiseAfter before rs → Follows (last_of before rs) r.0 → RiseAfter before (rs ++ r ∷ [])
 rise_pushed before [] r rise follows = (follows, tt)
 rise_pushed before (s ∷ rs) r rise follows = (rise.0, rise_pushed (Some s.0) rs r rise.1 follows)
 
-pub rows_pushed : (grid : Grid) (rs : List (Position × ℕ)) (r : Position × ℕ) → AllByRecursion (IsRow grid) rs → IsRow grid r → AllByRecursion (IsRow grid) (rs ++ r ∷ [])
+pub rows_pushed : (grid : ShapeModel) (rs : List (BoardModel × ℕ)) (r : BoardModel × ℕ) → AllByRecursion (IsRow grid) rs → IsRow grid r → AllByRecursion (IsRow grid) (rs ++ r ∷ [])
 rows_pushed grid [] r all is = (is, tt)
 rows_pushed grid (s ∷ rs) r all is = (all.0, rows_pushed grid rs r all.1 is)
 
-pub text_pushed : (rs : List (Position × ℕ)) (r : Position × ℕ) → flat_map row_text (rs ++ r ∷ []) ≡ flat_map row_text rs ++ row_text r
+pub text_pushed : (rs : List (BoardModel × ℕ)) (r : BoardModel × ℕ) → flat_map row_text (rs ++ r ∷ []) ≡ flat_map row_text rs ++ row_text r
 text_pushed [] r = flat_map-cons row_text r [] ∙ append-nil (row_text r)
 text_pushed (s ∷ rs) r = flat_map-cons row_text s (rs ++ r ∷ []) ∙ ap (λ (l : List ℕ). row_text s ++ l) (text_pushed rs r) ∙ sym (append_assoc (row_text s) (flat_map row_text rs) (row_text r)) ∙ ap (λ (l : List ℕ). l ++ row_text r) (sym (flat_map-cons row_text s rs))
 
-rows_at : (grid : Grid) (before : Option Position) → IsBefore grid before → (done : List (Position × ℕ)) (n : ℕ) (rest : List ℕ) (f : FormatFault × List ℕ) → length done < n → AllByRecursion (IsRow grid) done → RiseAfter before done
+rows_at : (grid : ShapeModel) (before : Option BoardModel) → IsBefore grid before → (done : List (BoardModel × ℕ)) (n : ℕ) (rest : List ℕ) (f : FormatFault × List ℕ) → length done < n → AllByRecursion (IsRow grid) done → RiseAfter before done
     → row grid (last_of before done) rest ≡ Err f → rows grid before n (flat_map row_text done ++ rest) ≡ Err f
 unfolding rows ◌>>=◌
 rows_at grid before is done zero rest f fewer all rise fails = absurd (omega (arith, fewer))
@@ -245,28 +245,28 @@ rows_at grid before is (r ∷ done) (suc n) rest f fewer all rise fails =
     ∙ ap (next_reading (λ first. rows grid (Some first.0) n >>= λ others. give (first ∷ others))) ((row_law grid before (sides_of grid r.0 all.0.board) is).again r (row_text r) (flat_map row_text done ++ rest) t)
     ∙ ap (next_reading (λ others. give (r ∷ others))) (rows_at grid (Some r.0) all.0.board done n rest f (omega (arith, fewer)) all.1 rise.1 fails)
 
-pub rows_refuse : (grid : Grid) (done : List (Position × ℕ)) (n : ℕ) (old mid new : SourceState) (f : ReadFault) → length done < n → AllByRecursion (IsRow grid) done → RiseAfter None done
-    → Takes (from_to old mid) (flat_map row_text done) → Refuses (row grid (last_of None done)) (from_to mid new) f → Refuses (rows grid None n) (from_to old new) f
+pub rows_refuse : (grid : ShapeModel) (done : List (BoardModel × ℕ)) (n : ℕ) (old mid new : SourceState) (f : ReadFault) → length done < n → AllByRecursion (IsRow grid) done → RiseAfter None done
+    → Takes (from_to old mid) (flat_map row_text done) → RefusesInput (row grid (last_of None done)) (from_to mid new) f → RefusesInput (rows grid None n) (from_to old new) f
 rows_refuse grid done n old mid new f fewer all rise taken r = carried_cut (row grid (last_of None done)) (rows grid None n) (flat_map row_text done) old mid new f taken (λ l g p. (p.0, rows_at grid None tt done n l (g, p.0) fewer all rise p.1)) r
 
-pub last_is_board : (grid : Grid) (before : Option Position) (rs : List (Position × ℕ)) → IsBefore grid before → AllByRecursion (IsRow grid) rs → IsBefore grid (last_of before rs)
+pub last_is_board : (grid : ShapeModel) (before : Option BoardModel) (rs : List (BoardModel × ℕ)) → IsBefore grid before → AllByRecursion (IsRow grid) rs → IsBefore grid (last_of before rs)
 last_is_board grid before [] is all = is
 last_is_board grid before (r ∷ rs) is all = last_is_board grid (Some r.0) rs all.0.board all.1
 
 -- ---- want of memory, where bytes are due
 
-lacks_memory : {X : Type 0} {r : Reader X} (source : Change SourceState) (text : List ℕ) → Takes source text → IsCutOff r text → source.after.has_failed ≡ false → (refused : OutOfMemory) → Refuses r source (NoMemory refused)
+lacks_memory : {X : Type 0} {r : Reader X} (source : Change SourceState) (text : List ℕ) → Takes source text → IsCutOff r text → source.after.has_failed ≡ false → (refused : OutOfMemory) → RefusesInput r source (NoMemory refused)
 lacks_memory source text taken cut fine refused = record { seen = text; taken = taken; is = tt; first = tt; stops = cut; failed = fine }
 
 -- before a letter
-pub letters_lack_memory : (done : List Move) (n : ℕ) (source : Change SourceState) → length done < n → Takes source (map letter_of done) → source.after.has_failed ≡ false → (refused : OutOfMemory) → Refuses (letters n) source (NoMemory refused)
+pub letters_lack_memory : (done : List Move) (n : ℕ) (source : Change SourceState) → length done < n → Takes source (map letter_of done) → source.after.has_failed ≡ false → (refused : OutOfMemory) → RefusesInput (letters n) source (NoMemory refused)
 letters_lack_memory done n source fewer taken fine refused =
     let cut : IsCutOff (letters n) (map letter_of done ++ []) = ([], letters_at done n [] (Truncated, []) fewer (field_short OutOfRange 1 letter_in [] (omega arith))) in
     lacks_memory source (map letter_of done) taken (subst (λ (l : List ℕ). IsCutOff (letters n) l) (append-nil (map letter_of done)) cut) fine refused
 
 -- before a group
-pub groups_lack_memory : (grid : Grid) (done : List Selection) (n : ℕ) (source : Change SourceState) → length done < n → All (λ g. IsSelection g) done → All (λ g. g.grid ≡ grid) done → AreApart done → Takes source (flat_map group_text done) → source.after.has_failed ≡ false → (refused : OutOfMemory)
-    → Refuses (groups grid [] n) source (NoMemory refused)
+pub groups_lack_memory : (grid : ShapeModel) (done : List GroupModel) (n : ℕ) (source : Change SourceState) → length done < n → All (λ g. IsGroup g) done → All (λ g. g.grid ≡ grid) done → AreApart done → Takes source (flat_map group_text done) → source.after.has_failed ≡ false → (refused : OutOfMemory)
+    → RefusesInput (groups grid [] n) source (NoMemory refused)
 unfolding group
 groups_lack_memory grid done n source fewer all sides apart taken fine refused =
     let none : IsFaultOf (group grid done) [] Truncated = first_fault (byte_within 1 24) (λ n. tiles grid done n) [] Truncated ([], field_short OutOfRange 1 (byte_in 1 24) [] (omega arith)) in
@@ -274,7 +274,7 @@ groups_lack_memory grid done n source fewer all sides apart taken fine refused =
     lacks_memory source (flat_map group_text done) taken (subst (λ (l : List ℕ). IsCutOff (groups grid [] n) l) (append-nil (flat_map group_text done)) cut) fine refused
 
 -- between the board of a row and its cost
-pub row_lacks_memory : (grid : Grid) (before : Option Position) (b : Position) (source : Change SourceState) → Finds (SpellsBoard grid) source b → (refused : OutOfMemory) → Refuses (row grid before) source (NoMemory refused)
+pub row_lacks_memory : (grid : ShapeModel) (before : Option BoardModel) (b : BoardModel) (source : Change SourceState) → Finds (SpellsBoard grid) source b → (refused : OutOfMemory) → RefusesInput (row grid before) source (NoMemory refused)
 row_lacks_memory grid before b source p refused =
     let is = p.spells.board in
     let cut : IsCutOff (row grid before) (b.tiles ++ []) = row_cut grid before (sides_of grid b is) b is [] (omega arith) in
@@ -282,21 +282,21 @@ row_lacks_memory grid before b source p refused =
 
 -- ---- a row among others
 
-rows_split : (rows : List (Position × ℕ)) (i : ℕ) (d : Position × ℕ) → i < length rows → rows ≡ take i rows ++ get_or rows i d ∷ drop (i + 1) rows
-rows_split rows i d within = sym (take-append-drop i rows) ∙ ap (λ (l : List (Position × ℕ)). take i rows ++ l) (drop_more rows i d within)
+rows_split : (rows : List (BoardModel × ℕ)) (i : ℕ) (d : BoardModel × ℕ) → i < length rows → rows ≡ take i rows ++ get_or rows i d ∷ drop (i + 1) rows
+rows_split rows i d within = sym (take-append-drop i rows) ∙ ap (λ (l : List (BoardModel × ℕ)). take i rows ++ l) (drop_more rows i d within)
 
-all_middle : (grid : Grid) (xs : List (Position × ℕ)) (r : Position × ℕ) (ys : List (Position × ℕ)) → AllByRecursion (IsRow grid) (xs ++ r ∷ ys) → IsRow grid r
+all_middle : (grid : ShapeModel) (xs : List (BoardModel × ℕ)) (r : BoardModel × ℕ) (ys : List (BoardModel × ℕ)) → AllByRecursion (IsRow grid) (xs ++ r ∷ ys) → IsRow grid r
 all_middle grid [] r ys all = all.0
 all_middle grid (x ∷ xs) r ys all = all_middle grid xs r ys all.1
 
-rise_middle : (before : Option Position) (xs : List (Position × ℕ)) (r : Position × ℕ) (ys : List (Position × ℕ)) → RiseAfter before (xs ++ r ∷ ys) → Follows (last_of before xs) r.0
+rise_middle : (before : Option BoardModel) (xs : List (BoardModel × ℕ)) (r : BoardModel × ℕ) (ys : List (BoardModel × ℕ)) → RiseAfter before (xs ++ r ∷ ys) → Follows (last_of before xs) r.0
 rise_middle before [] r ys rise = rise.0
 rise_middle before (x ∷ xs) r ys rise = rise_middle (Some x.0) xs r ys rise.1
 
 -- each row of rows that rise is one, and comes after those before it
-pub row_there : (grid : Grid) (rows : List (Position × ℕ)) (i : ℕ) (r : Position × ℕ) → i < length rows → r ≡ get_or rows i r → AllByRecursion (IsRow grid) rows × RiseAfter None rows → IsRow grid r × Follows (last_of None (take i rows)) r.0
+pub row_there : (grid : ShapeModel) (rows : List (BoardModel × ℕ)) (i : ℕ) (r : BoardModel × ℕ) → i < length rows → r ≡ get_or rows i r → AllByRecursion (IsRow grid) rows × RiseAfter None rows → IsRow grid r × Follows (last_of None (take i rows)) r.0
 row_there grid rows i r within is p =
-    let split : rows ≡ take i rows ++ r ∷ drop (i + 1) rows = rows_split rows i r within ∙ ap (λ (x : Position × ℕ). take i rows ++ x ∷ drop (i + 1) rows) (sym is) in (
-      all_middle grid (take i rows) r (drop (i + 1) rows) (subst (λ (l : List (Position × ℕ)). AllByRecursion (IsRow grid) l) split p.0),
-      rise_middle None (take i rows) r (drop (i + 1) rows) (subst (λ (l : List (Position × ℕ)). RiseAfter None l) split p.1),
+    let split : rows ≡ take i rows ++ r ∷ drop (i + 1) rows = rows_split rows i r within ∙ ap (λ (x : BoardModel × ℕ). take i rows ++ x ∷ drop (i + 1) rows) (sym is) in (
+      all_middle grid (take i rows) r (drop (i + 1) rows) (subst (λ (l : List (BoardModel × ℕ)). AllByRecursion (IsRow grid) l) split p.0),
+      rise_middle None (take i rows) r (drop (i + 1) rows) (subst (λ (l : List (BoardModel × ℕ)). RiseAfter None l) split p.1),
     )

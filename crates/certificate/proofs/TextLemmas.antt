@@ -9,9 +9,9 @@ use Rattle.std.proofs.lemmas.Slice.Eq.{bytes_eq-Decides}
 use Rattle.board.specs.declared.costs.TheConstants.{GREATEST_COST}
 use Rattle.board.specs.declared.moves.Move.{Move}
 use Rattle.board.specs.declared.moves.Move.TheVariants.{U}
-use Rattle.board.specs.Grids.{Grid, IsShape, cell_count}
-use Rattle.board.specs.Positions.{Position, goal_of}
-use Rattle.board.specs.CostRules.{CostRule}
+use Rattle.board.specs.Shapes.{ShapeModel, IsShape, cell_count}
+use Rattle.board.specs.Boards.{BoardModel, goal_of}
+use Rattle.board.specs.Weights.{WeightsModel}
 use Rattle.board.proofs.GoalLemmas.{goal_board}
 use Rattle.certificate.specs.Fields.{SpellsBeginning, SpellsBoard, SpellsByte, SpellsClaim, SpellsClaimed, SpellsCosts, SpellsCount, SpellsLetter, SpellsLetters, SpellsNumber, SpellsNumberWithin, SpellsOpening, SpellsPlan, SpellsVersion}
 use Rattle.certificate.specs.declared.faults.FormatFault.TheVariants.{OtherMagic, OutOfRange}
@@ -164,19 +164,19 @@ count_law = Law-field OutOfRange 8 count_in SpellsCount count_there count_in_bac
 
 -- ---- boards
 
-board_there : (grid : Grid) (b : Position) (text : List ℕ) → SpellsBoard grid b text → (length text ≡ cell_count grid) × (board_in grid text ≡ Some b)
+board_there : (grid : ShapeModel) (b : BoardModel) (text : List ℕ) → SpellsBoard grid b text → (length text ≡ cell_count grid) × (board_in grid text ≡ Some b)
 board_there grid b text t = (
   ap (λ (l : List ℕ). length l) t.is ∙ t.board.board.one_each ∙ ap cell_count t.board.sides,
   ap (board_in grid) t.is ∙ board_back grid b t.board.board t.board.sides,
 )
 
-board_in_back : (grid : Grid) → IsShape grid → (b : Position) (text : List ℕ) → AreBytes text → length text ≡ cell_count grid → board_in grid text ≡ Some b → SpellsBoard grid b text
+board_in_back : (grid : ShapeModel) → IsShape grid → (b : BoardModel) (text : List ℕ) → AreBytes text → length text ≡ cell_count grid → board_in grid text ≡ Some b → SpellsBoard grid b text
 board_in_back grid sides b text all len e = let p = board_found grid text b sides len e in record { board = record { board = p.0; sides = p.1 }; is = sym p.2 }
 
-pub board_law : (grid : Grid) → IsShape grid → Law (board grid) (SpellsBoard grid)
+pub board_law : (grid : ShapeModel) → IsShape grid → Law (board grid) (SpellsBoard grid)
 board_law grid sides = Law-field OutOfRange (cell_count grid) (board_in grid) (SpellsBoard grid) (board_there grid) (board_in_back grid sides)
 
-pub board_opens : (grid : Grid) → IsShape grid → Opens (board grid) (SpellsBoard grid)
+pub board_opens : (grid : ShapeModel) → IsShape grid → Opens (board grid) (SpellsBoard grid)
 board_opens grid sides = Opens-field OutOfRange (cell_count grid) (board_in grid) (SpellsBoard grid) (goal_of grid) (goal_of grid).tiles (record { board = record { board = goal_board grid sides; sides = refl }; is = refl })
 
 -- ---- letters
@@ -197,13 +197,13 @@ letter_opens = Opens-field OutOfRange 1 letter_in SpellsLetter U (letter_of U �
 
 -- ---- the opening
 
-abbrev pub KindParts : ℕ → ℕ → CostRule → List ℕ → Type 0
+abbrev pub KindParts : ℕ → ℕ → WeightsModel → List ℕ → Type 0
 KindParts rows cols = Both (SpellsByte 0 2) (λ kind. SpellsCosts (grid_of rows cols) kind)
 
-abbrev pub ColsParts : ℕ → CostRule → List ℕ → Type 0
+abbrev pub ColsParts : ℕ → WeightsModel → List ℕ → Type 0
 ColsParts rows = Both (SpellsByte 2 5) (λ cols. KindParts rows cols)
 
-abbrev pub RowsParts : CostRule → List ℕ → Type 0
+abbrev pub RowsParts : WeightsModel → List ℕ → Type 0
 RowsParts = Both (SpellsByte 2 5) (λ rows. ColsParts rows)
 
 pub sides_read : (rows cols : ℕ) (s t : List ℕ) → SpellsByte 2 5 rows s → SpellsByte 2 5 cols t → IsShape (grid_of rows cols)
@@ -221,7 +221,7 @@ opening_parts_open = Opens-seq (byte_within 2 5) _ (SpellsByte 2 5) _ (byte_law 
     Opens-seq (byte_within 2 5) _ (SpellsByte 2 5) _ (byte_law 2 5) (byte_opens 2 5 (omega arith)) (λ cols t c.
     Opens-seq (byte_within 0 2) _ (SpellsByte 0 2) _ (byte_law 0 2) (byte_opens 0 2 (omega arith)) (λ kind _ k. costs_open (grid_of rows cols) kind (sides_read rows cols s t r c) k.below)))
 
-pub opening_there : (costs : CostRule) (text : List ℕ) → RowsParts costs text → SpellsOpening costs text
+pub opening_there : (costs : WeightsModel) (text : List ℕ) → RowsParts costs text → SpellsOpening costs text
 unfolding opening_text
 opening_there costs text (rows, s1, t1, r, (cols, s2, t2, c, (kind, s3, t3, k, o, e3), e2), e1) =
     let same : costs.grid ≡ grid_of rows cols = o.costs.sides in
@@ -229,7 +229,7 @@ opening_there costs text (rows, s1, t1, r, (cols, s2, t2, c, (kind, s3, t3, k, o
     let told : t3 ≡ weights_text (kind_of costs) costs = o.is ∙ ap (λ (n : ℕ). weights_text n costs) (sym o.kind) in
     record { rule = o.costs.rule; is = bytes ∙ (λ i. (sym same i).rows ∷ (sym same i).cols ∷ sym o.kind i ∷ told i) }
 
-opening_back : (costs : CostRule) (text : List ℕ) → SpellsOpening costs text → RowsParts costs text
+opening_back : (costs : WeightsModel) (text : List ℕ) → SpellsOpening costs text → RowsParts costs text
 unfolding opening_text
 opening_back costs text t =
     let grid = costs.grid in

@@ -3,11 +3,11 @@ use Rattle.std.specs.Prelude.{ℕ, ◌≡◌, ◌≤◌, ◌<◌, ◌^◌, List,
 use Rattle.std.specs.List.{AllByRecursion}
 use Rattle.board.specs.declared.costs.TheConstants.{GREATEST_COST}
 use Rattle.board.specs.declared.moves.Move.{Move}
-use Rattle.board.specs.Grids.{Grid, IsShape}
-use Rattle.board.specs.Positions.{Position, IsBoard}
-use Rattle.board.specs.CostRules.{CostRule, IsCostRule}
+use Rattle.board.specs.Shapes.{ShapeModel, IsShape}
+use Rattle.board.specs.Boards.{BoardModel, IsBoard}
+use Rattle.board.specs.Weights.{WeightsModel, AreWeights}
 use Rattle.board.specs.Keys.{Precedes}
-use Rattle.pattern_index.specs.Splits.{Split, IsSplit}
+use Rattle.pattern_index.specs.Partitions.{PartitionModel, IsPartition}
 use Rattle.certificate.specs.declared.certificate.TheConstants.{GREATEST_BOUND}
 use Rattle.certificate.specs.declared.certificate.Version.{Version}
 use Rattle.certificate.specs.declared.certificate.Version.TheVariants.{One, Two}
@@ -16,16 +16,16 @@ use Rattle.certificate.specs.declared.certificate.Claim.TheVariants.{Least, Boun
 use Rattle.certificate.specs.declared.certificate.Parts.{Parts}
 
 -- Rows, which are boards with a cost, prove with the sums of the groups' tables that no plan from the start to the goal is cheaper than the cost. A plan leads there at that cost, or there is none, and the cost is a bound.
-pub record Statement : Type 0 where
+pub record CertificateModel : Type 0 where
   pub version : Version
-  pub grid : Grid
-  pub costs : CostRule
-  pub groups : Split
-  pub start : Position
-  pub goal : Position
+  pub grid : ShapeModel
+  pub costs : WeightsModel
+  pub groups : PartitionModel
+  pub start : BoardModel
+  pub goal : BoardModel
   pub cost : ℕ
   pub plan : Option (List Move)
-  pub rows : List (Position × ℕ)
+  pub rows : List (BoardModel × ℕ)
 
 -- the plan's cost, or the bound
 abbrev pub cost_of : Claim → ℕ
@@ -38,25 +38,25 @@ plan_of (Least cost plan) = Some plan.items
 plan_of (Bound bound) = None
 
 -- what the fields state
-abbrev pub statement_of : Parts → Statement
+abbrev pub statement_of : Parts → CertificateModel
 statement_of p = record { version = p.version; grid = p.shape; costs = p.costs; groups = p.groups; start = p.start; goal = p.goal; cost = cost_of p.claim; plan = plan_of p.claim; rows = p.rows.items }
 
 -- the same in version 2
-abbrev pub upgraded : Statement → Statement
+abbrev pub upgraded : CertificateModel → CertificateModel
 upgraded c = record c { version = Two }
 
 -- a weight for each tile of this grid's boards
-pub record AreCostsOf (grid : Grid) (costs : CostRule) : Type 0 where
-  pub rule : IsCostRule costs
+pub record AreCostsOf (grid : ShapeModel) (costs : WeightsModel) : Type 0 where
+  pub rule : AreWeights costs
   pub sides : costs.grid ≡ grid
 
 -- groups of tiles of this grid's boards, of which no two share one
-pub record IsSplitOf (grid : Grid) (groups : Split) : Type 0 where
-  pub split : IsSplit groups
+pub record IsSplitOf (grid : ShapeModel) (groups : PartitionModel) : Type 0 where
+  pub split : IsPartition groups
   pub sides : groups.grid ≡ grid
 
 -- a board of this grid
-pub record IsBoardOf (grid : Grid) (b : Position) : Type 0 where
+pub record IsBoardOf (grid : ShapeModel) (b : BoardModel) : Type 0 where
   pub board : IsBoard b
   pub sides : b.grid ≡ grid
 
@@ -75,21 +75,21 @@ Allows One plan = IsSome plan
 Allows Two plan = ⊤
 
 -- a row: a board of the grid, and a cost
-pub record IsRow (grid : Grid) (row : Position × ℕ) : Type 0 where
+pub record IsRow (grid : ShapeModel) (row : BoardModel × ℕ) : Type 0 where
   pub board : IsBoardOf grid row.0
   pub cost : IsWithinLimit row.1
 
 -- the board's list of tiles comes after that of the one before it, if there is one
-abbrev pub Follows : Option Position → Position → Type 0
+abbrev pub Follows : Option BoardModel → BoardModel → Type 0
 Follows before b = IfSome before (λ a. Precedes a.tiles b.tiles)
 
 -- each row's board follows that of the row before it, and the first row's follows this one, if there is one
-abbrev pub RiseAfter : Option Position → List (Position × ℕ) → Type 0
+abbrev pub RiseAfter : Option BoardModel → List (BoardModel × ℕ) → Type 0
 RiseAfter before [] = ⊤
 RiseAfter before (row ∷ rows) = Follows before row.0 × RiseAfter (Some row.0) rows
 
 -- a bound is claimed in version 2 only, all groups and boards are of one shape, the numbers are in their ranges, and the rows rise by their lists of tiles
-pub record IsCertificate (c : Statement) : Type 0 where
+pub record IsCertificate (c : CertificateModel) : Type 0 where
   pub sides : IsShape c.grid
   pub costs : AreCostsOf c.grid c.costs
   pub groups : IsSplitOf c.grid c.groups

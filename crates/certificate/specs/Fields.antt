@@ -3,14 +3,14 @@ use Rattle.std.specs.Prelude.{ℕ, ◌≡◌, ◌≤◌, ◌<◌, ◌^◌, List,
 use Rattle.std.specs.List.{flat_map, AllByRecursion}
 use Rattle.board.specs.declared.costs.TheConstants.{GREATEST_COST}
 use Rattle.board.specs.declared.moves.Move.{Move}
-use Rattle.board.specs.Grids.{Grid}
-use Rattle.board.specs.Positions.{Position}
-use Rattle.board.specs.CostRules.{CostRule, IsCostRule}
-use Rattle.pattern_index.specs.Selections.{Selection, IsSelection}
-use Rattle.pattern_index.specs.Splits.{Split, ShareNoTile, AreApart}
+use Rattle.board.specs.Shapes.{ShapeModel}
+use Rattle.board.specs.Boards.{BoardModel}
+use Rattle.board.specs.Weights.{WeightsModel, AreWeights}
+use Rattle.pattern_index.specs.Groups.{GroupModel, IsGroup}
+use Rattle.pattern_index.specs.Partitions.{PartitionModel, ShareNoTile, AreApart}
 use Rattle.certificate.specs.declared.certificate.Version.{Version}
 use Rattle.certificate.specs.declared.certificate.Version.TheVariants.{One, Two}
-use Rattle.certificate.specs.Certificates.{Statement, AreCostsOf, IsSplitOf, IsBoardOf, IsWithinLimit, greatest, IsRow, Follows, RiseAfter, IsCertificate}
+use Rattle.certificate.specs.Certificates.{CertificateModel, AreCostsOf, IsSplitOf, IsBoardOf, IsWithinLimit, greatest, IsRow, Follows, RiseAfter, IsCertificate}
 use Rattle.board.specs.Letters.{letter_of}
 use Rattle.certificate.specs.Spellings.{kind_of, weights_text, version_text, claim_of, claim_text, beginning_text, opening_text, group_text, groups_text, number_text, count_text, plan_text, claimed_text, row_text, body_text, front_text}
 
@@ -54,7 +54,7 @@ pub record SpellsCount (n : ℕ) (text : List ℕ) : Type 0 where
   pub is : text ≡ count_text n
 
 -- a board of the grid
-pub record SpellsBoard (grid : Grid) (b : Position) (text : List ℕ) : Type 0 where
+pub record SpellsBoard (grid : ShapeModel) (b : BoardModel) (text : List ℕ) : Type 0 where
   pub board : IsBoardOf grid b
   pub is : text ≡ b.tiles
 
@@ -63,43 +63,43 @@ abbrev pub SpellsLetter : Move → List ℕ → Type 0
 SpellsLetter m text = text ≡ letter_of m ∷ []
 
 -- costs of the grid that are of this kind, by what follows the kind
-pub record SpellsCosts (grid : Grid) (n : ℕ) (c : CostRule) (text : List ℕ) : Type 0 where
+pub record SpellsCosts (grid : ShapeModel) (n : ℕ) (c : WeightsModel) (text : List ℕ) : Type 0 where
   pub costs : AreCostsOf grid c
   pub kind : kind_of c ≡ n
   pub is : text ≡ weights_text n c
 
 -- the costs of a shape
-pub record SpellsOpening (costs : CostRule) (text : List ℕ) : Type 0 where
-  pub rule : IsCostRule costs
+pub record SpellsOpening (costs : WeightsModel) (text : List ℕ) : Type 0 where
+  pub rule : AreWeights costs
   pub is : text ≡ opening_text costs
 
 -- a group of the grid that shares no tile with the groups before it
-pub record IsNextGroup (grid : Grid) (before : List Selection) (g : Selection) : Type 0 where
-  pub group : IsSelection g
+pub record IsNextGroup (grid : ShapeModel) (before : List GroupModel) (g : GroupModel) : Type 0 where
+  pub group : IsGroup g
   pub sides : g.grid ≡ grid
   pub apart : All (λ h. ShareNoTile h.tiles g.tiles) before
 
 -- the n tiles of such a group
-pub record SpellsTiles (grid : Grid) (before : List Selection) (n : ℕ) (g : Selection) (text : List ℕ) : Type 0 where
+pub record SpellsTiles (grid : ShapeModel) (before : List GroupModel) (n : ℕ) (g : GroupModel) (text : List ℕ) : Type 0 where
   pub next : IsNextGroup grid before g
   pub count : length g.tiles ≡ n
   pub is : text ≡ g.tiles
 
 -- such a group, with the number of its tiles
-pub record SpellsGroup (grid : Grid) (before : List Selection) (g : Selection) (text : List ℕ) : Type 0 where
+pub record SpellsGroup (grid : ShapeModel) (before : List GroupModel) (g : GroupModel) (text : List ℕ) : Type 0 where
   pub next : IsNextGroup grid before g
   pub is : text ≡ group_text g
 
 -- n groups, of which no two share a tile, nor one of them with a group before them
-pub record SpellsGroups (grid : Grid) (before : List Selection) (n : ℕ) (gs : List Selection) (text : List ℕ) : Type 0 where
+pub record SpellsGroups (grid : ShapeModel) (before : List GroupModel) (n : ℕ) (gs : List GroupModel) (text : List ℕ) : Type 0 where
   pub count : length gs ≡ n
-  pub groups : All (λ g. IsSelection g) gs
+  pub groups : All (λ g. IsGroup g) gs
   pub sides : All (λ g. g.grid ≡ grid) gs
   pub apart : AreApart (before ++ gs)
   pub is : text ≡ flat_map group_text gs
 
 -- groups, with their number
-pub record SpellsAllGroups (grid : Grid) (groups : Split) (text : List ℕ) : Type 0 where
+pub record SpellsAllGroups (grid : ShapeModel) (groups : PartitionModel) (text : List ℕ) : Type 0 where
   pub split : IsSplitOf grid groups
   pub is : text ≡ groups_text groups.groups
 
@@ -121,27 +121,27 @@ pub record SpellsClaimed (n : ℕ) (found : ℕ × Option (List Move)) (text : L
   pub is : text ≡ claimed_text found.0 found.1
 
 -- a row, which comes after the one with this board, if there is one
-pub record SpellsRow (grid : Grid) (before : Option Position) (r : Position × ℕ) (text : List ℕ) : Type 0 where
+pub record SpellsRow (grid : ShapeModel) (before : Option BoardModel) (r : BoardModel × ℕ) (text : List ℕ) : Type 0 where
   pub row : IsRow grid r
   pub follows : Follows before r.0
   pub is : text ≡ row_text r
 
 -- n rows that rise
-pub record SpellsRows (grid : Grid) (n : ℕ) (rs : List (Position × ℕ)) (text : List ℕ) : Type 0 where
+pub record SpellsRows (grid : ShapeModel) (n : ℕ) (rs : List (BoardModel × ℕ)) (text : List ℕ) : Type 0 where
   pub count : length rs ≡ n
   pub rows : AllByRecursion (IsRow grid) rs
   pub rising : RiseAfter None rs
   pub is : text ≡ flat_map row_text rs
 
 -- rows that rise, with their number
-pub record SpellsAllRows (grid : Grid) (rs : List (Position × ℕ)) (text : List ℕ) : Type 0 where
+pub record SpellsAllRows (grid : ShapeModel) (rs : List (BoardModel × ℕ)) (text : List ℕ) : Type 0 where
   pub count : length rs < 2 ^ 64
   pub rows : AllByRecursion (IsRow grid) rs
   pub rising : RiseAfter None rs
   pub is : text ≡ count_text (length rs) ++ flat_map row_text rs
 
 -- the boards, and what is claimed, of a statement of this version with these costs and groups, and with no rows
-pub record SpellsBody (v : Version) (n : ℕ) (costs : CostRule) (groups : Split) (c : Statement) (text : List ℕ) : Type 0 where
+pub record SpellsBody (v : Version) (n : ℕ) (costs : WeightsModel) (groups : PartitionModel) (c : CertificateModel) (text : List ℕ) : Type 0 where
   pub start : IsBoardOf costs.grid c.start
   pub goal : IsBoardOf costs.grid c.goal
   pub claim : claim_of c.plan ≡ n
@@ -151,7 +151,7 @@ pub record SpellsBody (v : Version) (n : ℕ) (costs : CostRule) (groups : Split
   pub is : text ≡ body_text c
 
 -- all before the rows, of a statement with none
-pub record SpellsFront (c : Statement) (text : List ℕ) : Type 0 where
+pub record SpellsFront (c : CertificateModel) (text : List ℕ) : Type 0 where
   pub fits : IsCertificate c
   pub bare : c.rows ≡ []
   pub is : text ≡ front_text c

@@ -1,9 +1,9 @@
 -- The laws of spellings and readings, and of what is read of a source.
 use Rattle.std.specs.Prelude.{ℕ, ◌≡◌, ◌≢◌, ◌⊎◌, ◌<◌, ◌≤◌, ◌^◌, ◌↔◌, List, [], ◌∷◌, ◌++◌, length, Some, Result, Ok, Err}
 use Rattle.std.specs.List.{AllByRecursion}
-use Rattle.certificate.specs.Certificates.{Statement, IsCertificate}
+use Rattle.certificate.specs.Certificates.{CertificateModel, IsCertificate}
 use Rattle.certificate.specs.Spellings.{Spells, spelling, heading, announcement}
-use Rattle.certificate.specs.Readings.{certificate, IsFaultAt, IsFirstFault, HasNoFault}
+use Rattle.certificate.specs.Readings.{certificate, IsFaultAt, IsFirstFormatFault, HasNoFault}
 use Rattle.certificate.specs.Sources.{ReadsCertificate}
 use Rattle.byte_streams.specs.Streams.{SourceState, Change}
 use Rattle.certificate.specs.declared.faults.FormatFault.{FormatFault}
@@ -17,37 +17,37 @@ AreBytes bytes = AllByRecursion (λ b. b < 2 ^ 8) bytes
 
 -- a certificate is read exactly where the bytes spell it
 abbrev pub ReadingIsSpelling : Type 0
-ReadingIsSpelling = (bytes : List ℕ) → AreBytes bytes → (c : Statement) → (certificate bytes ≡ Ok (c, [])) ↔ Spells c bytes
+ReadingIsSpelling = (bytes : List ℕ) → AreBytes bytes → (c : CertificateModel) → (certificate bytes ≡ Ok (c, [])) ↔ Spells c bytes
 
 -- bytes spell a certificate or have a first fault
 abbrev pub SpelledOrFaulty : Type 0
-SpelledOrFaulty = (bytes : List ℕ) → AreBytes bytes → ((c : Statement) × Spells c bytes) ⊎ ((fault : FormatFault) × IsFirstFault bytes fault)
+SpelledOrFaulty = (bytes : List ℕ) → AreBytes bytes → ((c : CertificateModel) × Spells c bytes) ⊎ ((fault : FormatFault) × IsFirstFormatFault bytes fault)
 
 -- and not both
 abbrev pub NotBoth : Type 0
-NotBoth = (bytes : List ℕ) (c : Statement) (fault : FormatFault) → Spells c bytes → ¬ IsFirstFault bytes fault
+NotBoth = (bytes : List ℕ) (c : CertificateModel) (fault : FormatFault) → Spells c bytes → ¬ IsFirstFormatFault bytes fault
 
 -- bytes have one first fault
 abbrev pub OneFirstFault : Type 0
-OneFirstFault = (bytes : List ℕ) (fault fault' : FormatFault) → IsFirstFault bytes fault → IsFirstFault bytes fault' → fault' ≡ fault
+OneFirstFault = (bytes : List ℕ) (fault fault' : FormatFault) → IsFirstFormatFault bytes fault → IsFirstFormatFault bytes fault' → fault' ≡ fault
 
 -- nothing is wrong, unless they are cut off, with bytes that spell a certificate or that are cut off, and with no others
 abbrev pub FaultlessIsSpelledOrCutOff : Type 0
-FaultlessIsSpelledOrCutOff = (bytes : List ℕ) → AreBytes bytes → HasNoFault certificate bytes ↔ (((c : Statement) × Spells c bytes) ⊎ IsFirstFault bytes Truncated)
+FaultlessIsSpelledOrCutOff = (bytes : List ℕ) → AreBytes bytes → HasNoFault certificate bytes ↔ (((c : CertificateModel) × Spells c bytes) ⊎ IsFirstFormatFault bytes Truncated)
 
 -- one text begins with the other
 abbrev pub Begins : List ℕ → List ℕ → Type 0
 Begins text before = (after : List ℕ) × (text ≡ before ++ after)
 
 -- before a faulty group stands a certificate's beginning, but for the number of groups, of which more are announced than stand there; and with faulty tiles, their number
-pub record AnnouncesGroups (c : Statement) (before : List ℕ) : Type 0 where
+pub record AnnouncesGroups (c : CertificateModel) (before : List ℕ) : Type 0 where
   pub count : ℕ
   pub more : length c.groups.groups < count
   pub few : count ≤ 24
   pub is : (before ≡ heading count c) ⊎ ((size : ℕ) × (0 < size) × (size ≤ 24) × (before ≡ heading count c ++ size ∷ []))
 
 -- before a faulty row stands a spelling, but for the number of rows, of which more are announced than stand there
-pub record AnnouncesRows (c : Statement) (before : List ℕ) : Type 0 where
+pub record AnnouncesRows (c : CertificateModel) (before : List ℕ) : Type 0 where
   pub count : ℕ
   pub more : length c.rows < count
   pub few : count < 2 ^ 64
@@ -57,31 +57,31 @@ pub record AnnouncesRows (c : Statement) (before : List ℕ) : Type 0 where
 abbrev pub FaultsComeFirst : Type 0
 FaultsComeFirst =
     (bytes : List ℕ) (fault : FormatFault) (from : List ℕ) → AreBytes bytes → IsFaultAt bytes fault from
-    → (before : List ℕ) × (c : Statement) × (bytes ≡ before ++ from) × IsCertificate c × (Begins (spelling c) before ⊎ AnnouncesGroups c before ⊎ AnnouncesRows c before)
+    → (before : List ℕ) × (c : CertificateModel) × (bytes ≡ before ++ from) × IsCertificate c × (Begins (spelling c) before ⊎ AnnouncesGroups c before ⊎ AnnouncesRows c before)
 
 -- no spelling begins another one
 abbrev pub NoneBeginsAnother : Type 0
-NoneBeginsAnother = (c d : Statement) (bytes more : List ℕ) → Spells c bytes → Spells d (bytes ++ more) → (more ≡ []) × (d ≡ c)
+NoneBeginsAnother = (c d : CertificateModel) (bytes more : List ℕ) → Spells c bytes → Spells d (bytes ++ more) → (more ≡ []) × (d ≡ c)
 
 -- a spelling is of one certificate
 abbrev pub OneCertificate : Type 0
-OneCertificate = (c d : Statement) (bytes : List ℕ) → Spells c bytes → Spells d bytes → d ≡ c
+OneCertificate = (c d : CertificateModel) (bytes : List ℕ) → Spells c bytes → Spells d bytes → d ≡ c
 
 -- a certificate has one spelling
 abbrev pub OneSpelling : Type 0
-OneSpelling = (c : Statement) (bytes bytes' : List ℕ) → Spells c bytes → Spells c bytes' → bytes' ≡ bytes
+OneSpelling = (c : CertificateModel) (bytes bytes' : List ℕ) → Spells c bytes → Spells c bytes' → bytes' ≡ bytes
 
 -- what an answer tells of the bytes that were taken: they spell the certificate, or have this first fault; or have none, unless they are cut off
-abbrev pub TellsOfBytes : Result Statement ReadFault → List ℕ → Type 0
+abbrev pub TellsOfBytes : Result CertificateModel ReadFault → List ℕ → Type 0
 TellsOfBytes (Ok c) bytes = Spells c bytes
-TellsOfBytes (Err (Format fault)) bytes = IsFirstFault bytes fault
+TellsOfBytes (Err (Format fault)) bytes = IsFirstFormatFault bytes fault
 TellsOfBytes (Err Failed) bytes = HasNoFault certificate bytes
 TellsOfBytes (Err (NoMemory refused)) bytes = HasNoFault certificate bytes
 
 -- where the bytes before and after are known, the answer tells of those between
 abbrev pub AnswersTellOfBytes : Type 0
 AnswersTellOfBytes =
-    (source : Change SourceState) (result : Result Statement ReadFault) (bytes left : List ℕ)
+    (source : Change SourceState) (result : Result CertificateModel ReadFault) (bytes left : List ℕ)
     → source.before.left ≡ Some (bytes ++ left)
     → source.after.left ≡ Some left
     → ReadsCertificate source result

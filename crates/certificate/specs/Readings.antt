@@ -6,17 +6,17 @@ use Rattle.std.specs.Str.{bytes_eq}
 use Rattle.board.specs.declared.costs.TheConstants.{GREATEST_COST}
 use Rattle.board.specs.declared.moves.Move.{Move}
 use Rattle.board.specs.Letters.{move_of_letter}
-use Rattle.board.specs.Grids.{Grid, cell_count}
-use Rattle.board.specs.Positions.{Position}
-use Rattle.board.specs.CostRules.{CostRule, listed_rule, unit_rule, face_rule}
+use Rattle.board.specs.Shapes.{ShapeModel, cell_count}
+use Rattle.board.specs.Boards.{BoardModel}
+use Rattle.board.specs.Weights.{WeightsModel, listed_rule, unit_rule, face_rule}
 use Rattle.board.specs.Keys.{key_of}
 use Rattle.pattern_index.specs.declared.group.TheConstants.{MAX_SIZE}
-use Rattle.pattern_index.specs.Selections.{Selection, size_of}
-use Rattle.pattern_index.specs.Splits.{Split}
+use Rattle.pattern_index.specs.Groups.{GroupModel, size_of}
+use Rattle.pattern_index.specs.Partitions.{PartitionModel}
 use Rattle.certificate.specs.declared.certificate.TheConstants.{GREATEST_BOUND}
 use Rattle.certificate.specs.declared.certificate.Version.{Version}
 use Rattle.certificate.specs.declared.certificate.Version.TheVariants.{One, Two}
-use Rattle.certificate.specs.Certificates.{Statement}
+use Rattle.certificate.specs.Certificates.{CertificateModel}
 use Rattle.certificate.specs.Spellings.{kind_of}
 use Rattle.certificate.specs.declared.faults.FormatFault.{FormatFault}
 use Rattle.certificate.specs.declared.faults.FormatFault.TheVariants.{OtherMagic, Truncated, OutOfRange, NotRising, BytesAfterEnd}
@@ -98,14 +98,14 @@ all_differ [] = true
 all_differ (x ∷ xs) = list_all (λ y. not (x == y)) xs && all_differ xs
 
 -- each number is below the count of cells, and no two are the same
-unfoldable pub board_in : Grid → List ℕ → Option Position
+unfoldable pub board_in : ShapeModel → List ℕ → Option BoardModel
 board_in grid text = if list_all (λ tile. nat_lt tile (cell_count grid)) text && all_differ text then Some (record { grid = grid; tiles = text }) else None
 
-abbrev pub board : Grid → Reader Position
+abbrev pub board : ShapeModel → Reader BoardModel
 board grid = field OutOfRange (cell_count grid) (board_in grid)
 
 -- each number is above 0 and below the count of cells
-abbrev pub are_tiles : Grid → List ℕ → Bool
+abbrev pub are_tiles : ShapeModel → List ℕ → Bool
 are_tiles grid text = list_all (λ tile. nat_lt 0 tile && nat_lt tile (cell_count grid)) text
 
 -- each number is below all later ones
@@ -118,11 +118,11 @@ abbrev pub shares_none : List ℕ → List ℕ → Bool
 shares_none xs ys = list_all (λ y. not (list_any (λ x. x == y) xs)) ys
 
 -- The tiles of a group, in rising order: it has no more views than a group may have, and shares no tile with the groups before it.
-unfoldable pub group_in : Grid → List Selection → List ℕ → Option Selection
+unfoldable pub group_in : ShapeModel → List GroupModel → List ℕ → Option GroupModel
 group_in grid before text =
     if (are_tiles grid text && rises text) && (nat_le (size_of (record { grid = grid; tiles = text })) MAX_SIZE && list_all (λ h. shares_none h.tiles text) before) then Some (record { grid = grid; tiles = text }) else None
 
-abbrev pub tiles : Grid → List Selection → ℕ → Reader Selection
+abbrev pub tiles : ShapeModel → List GroupModel → ℕ → Reader GroupModel
 tiles grid before n = field OutOfRange n (group_in grid before)
 
 unfoldable pub letter_in : List ℕ → Option Move
@@ -132,16 +132,16 @@ abbrev pub letter : Reader Move
 letter = field OutOfRange 1 letter_in
 
 -- the weights of tiles 1, 2, .. in order: none is 0, and they are neither unit nor face costs
-unfoldable pub weights_in : Grid → List ℕ → Option CostRule
+unfoldable pub weights_in : ShapeModel → List ℕ → Option WeightsModel
 weights_in grid text = if list_all (λ weight. nat_lt 0 weight) text && (kind_of (listed_rule grid text) == 2) then Some (listed_rule grid text) else None
 
 -- ---- the certificate
 
-abbrev pub grid_of : ℕ → ℕ → Grid
+abbrev pub grid_of : ℕ → ℕ → ShapeModel
 grid_of rows cols = record { rows = rows; cols = cols }
 
 -- kind 0 is unit cost, kind 1 face cost; of kind 2 the weights follow
-abbrev pub costs_of : Grid → ℕ → Reader CostRule
+abbrev pub costs_of : ShapeModel → ℕ → Reader WeightsModel
 costs_of grid zero = give (unit_rule grid)
 costs_of grid (suc zero) = give (face_rule grid)
 costs_of grid (suc (suc kind)) = field OutOfRange (cell_count grid - 1) (weights_in grid)
@@ -157,7 +157,7 @@ beginning = do
   n ← claim v
   give (v, n)
 
-unfoldable pub opening : Reader CostRule
+unfoldable pub opening : Reader WeightsModel
 opening = do
   rows ← byte_within 2 5
   cols ← byte_within 2 5
@@ -165,20 +165,20 @@ opening = do
   costs_of (grid_of rows cols) kind
 
 -- the number of tiles, and the tiles
-unfoldable pub group : Grid → List Selection → Reader Selection
+unfoldable pub group : ShapeModel → List GroupModel → Reader GroupModel
 group grid before = do
   n ← byte_within 1 24
   tiles grid before n
 
 -- so many groups, after those before them
-unfoldable pub groups : Grid → List Selection → ℕ → Reader (List Selection)
+unfoldable pub groups : ShapeModel → List GroupModel → ℕ → Reader (List GroupModel)
 groups grid before zero = give []
 groups grid before (suc n) = do
   first ← group grid before
   others ← groups grid (before ++ first ∷ []) n
   give (first ∷ others)
 
-unfoldable pub all_groups : Grid → Reader Split
+unfoldable pub all_groups : ShapeModel → Reader PartitionModel
 all_groups grid = do
   n ← byte_within 0 24
   found ← groups grid [] n
@@ -207,28 +207,28 @@ claimed (suc claim) = do
   give (bound, None)
 
 -- whether the board may stand in the row after this one, if there is one: boards of a grid have their keys in the order of their lists of tiles
-abbrev pub may_follow : Option Position → Position → Bool
+abbrev pub may_follow : Option BoardModel → BoardModel → Bool
 may_follow None b = true
 may_follow (Some before) b = nat_lt (key_of before) (key_of b)
 
-unfoldable pub row_order : Option Position → Position × ℕ → Reader (Position × ℕ)
+unfoldable pub row_order : Option BoardModel → BoardModel × ℕ → Reader (BoardModel × ℕ)
 row_order before row bytes = if may_follow before row.0 then Ok (row, bytes) else Err (NotRising, bytes)
 
 -- a row is at fault as a whole, and its order is judged last
-unfoldable pub row : Grid → Option Position → Reader (Position × ℕ)
+unfoldable pub row : ShapeModel → Option BoardModel → Reader (BoardModel × ℕ)
 row grid before = as_one (do
   b ← board grid
   g ← number
   row_order before (b, g))
 
-unfoldable pub rows : Grid → Option Position → ℕ → Reader (List (Position × ℕ))
+unfoldable pub rows : ShapeModel → Option BoardModel → ℕ → Reader (List (BoardModel × ℕ))
 rows grid before zero = give []
 rows grid before (suc n) = do
   first ← row grid before
   others ← rows grid (Some first.0) n
   give (first ∷ others)
 
-unfoldable pub all_rows : Grid → Reader (List (Position × ℕ))
+unfoldable pub all_rows : ShapeModel → Reader (List (BoardModel × ℕ))
 all_rows grid = do
   n ← count
   rows grid None n
@@ -239,7 +239,7 @@ end [] = Ok (tt, [])
 end (b ∷ bytes) = Err (BytesAfterEnd, b ∷ bytes)
 
 -- the boards, and what is claimed
-unfoldable pub body : Version → ℕ → CostRule → Split → Reader Statement
+unfoldable pub body : Version → ℕ → WeightsModel → PartitionModel → Reader CertificateModel
 body v n costs groups = do
   start ← board costs.grid
   goal ← board costs.grid
@@ -247,14 +247,14 @@ body v n costs groups = do
   give (record { version = v; grid = costs.grid; costs = costs; groups = groups; start = start; goal = goal; cost = found.0; plan = found.1; rows = [] })
 
 -- all before the rows
-unfoldable pub front : Reader Statement
+unfoldable pub front : Reader CertificateModel
 front = do
   form ← beginning
   costs ← opening
   split ← all_groups costs.grid
   body form.0 form.1 costs split
 
-unfoldable pub certificate : Reader Statement
+unfoldable pub certificate : Reader CertificateModel
 certificate = do
   c ← front
   proof ← all_rows c.grid
@@ -278,5 +278,5 @@ abbrev pub IsFaultAt : List ℕ → FormatFault → List ℕ → Type 0
 IsFaultAt bytes fault from = certificate bytes ≡ Err (fault, from)
 
 -- this is the first fault of the bytes
-abbrev pub IsFirstFault : List ℕ → FormatFault → Type 0
-IsFirstFault bytes fault = (from : List ℕ) × IsFaultAt bytes fault from
+abbrev pub IsFirstFormatFault : List ℕ → FormatFault → Type 0
+IsFirstFormatFault bytes fault = (from : List ℕ) × IsFaultAt bytes fault from

@@ -7,9 +7,9 @@ use Rattle.certificate.specs.declared.faults.FormatFault.TheVariants.{Truncated}
 use Rattle.certificate.specs.declared.faults.ReadFault.{ReadFault}
 use Rattle.certificate.specs.declared.faults.ReadFault.TheVariants.{Format, Failed, NoMemory}
 use Rattle.memory.specs.declared.OutOfMemory.{OutOfMemory}
-use Rattle.certificate.specs.Certificates.{Statement}
+use Rattle.certificate.specs.Certificates.{CertificateModel}
 use Rattle.certificate.specs.Spellings.{Spells, spelling}
-use Rattle.certificate.specs.Readings.{Reader, IsFaultOf, IsCutOff, HasNoFault, IsFirstFault, certificate}
+use Rattle.certificate.specs.Readings.{Reader, IsFaultOf, IsCutOff, HasNoFault, IsFirstFormatFault, certificate}
 
 -- what a fault of the bytes says; a failure of the source and a want of memory say nothing of them
 abbrev pub IfFormat : ReadFault → (FormatFault → Type 0) → Type 0
@@ -53,10 +53,10 @@ pub record IsShown (IsSound : List ℕ → Type 0) (source : Change SourceState)
   pub at_byte : fault ≢ Truncated → (before : List ℕ) × (byte : ℕ) × (seen ≡ before ++ byte ∷ []) × IsSound before
 
 -- Where reading stops: at the byte that shows a fault, and for a failure of the source or a want of memory where no fault stands in what was taken.
-abbrev pub Stops : (List ℕ → Type 0) → Change SourceState → List ℕ → ReadFault → Type 0
-Stops IsSound source seen (Format fault) = IsShown IsSound source seen fault
-Stops IsSound source seen Failed = IsSound seen
-Stops IsSound source seen (NoMemory refused) = IsSound seen
+abbrev pub StopsAt : (List ℕ → Type 0) → Change SourceState → List ℕ → ReadFault → Type 0
+StopsAt IsSound source seen (Format fault) = IsShown IsSound source seen fault
+StopsAt IsSound source seen Failed = IsSound seen
+StopsAt IsSound source seen (NoMemory refused) = IsSound seen
 
 -- Some of the bytes were taken, as far as the fault shows; and a fault of the bytes is the first of them, and of all that were left. It is a failure exactly where the source has failed.
 pub record RefusesAt {X : Type 0} (reader : Reader X) (IsSound : List ℕ → Type 0) (source : Change SourceState) (fault : ReadFault) : Type 0 where
@@ -64,17 +64,17 @@ pub record RefusesAt {X : Type 0} (reader : Reader X) (IsSound : List ℕ → Ty
   pub taken : Takes source seen
   pub is : IfFormat fault (λ f. IsFaultOf reader seen f)
   pub first : IfFormat fault (λ f. IfSome source.before.left (λ input. IsFaultOf reader input f))
-  pub stops : Stops IsSound source seen fault
+  pub stops : StopsAt IsSound source seen fault
   pub failed : source.after.has_failed ≡ is_failure fault
 
 -- the reader has more to read as long as no fault shows
-abbrev pub Refuses : {X : Type 0} → Reader X → Change SourceState → ReadFault → Type 0
-Refuses reader source fault = RefusesAt reader (λ bytes. IsCutOff reader bytes) source fault
+abbrev pub RefusesInput : {X : Type 0} → Reader X → Change SourceState → ReadFault → Type 0
+RefusesInput reader source fault = RefusesAt reader (λ bytes. IsCutOff reader bytes) source fault
 
 -- the reader of a field: it finds a value, or refuses
-abbrev pub Reads : {X Y : Type 0} → Reader Y → (X → List ℕ → Type 0) → Change SourceState → Result X ReadFault → Type 0
-Reads reader IsText source (Ok value) = Finds IsText source value
-Reads reader IsText source (Err fault) = Refuses reader source fault
+abbrev pub ReadsField : {X Y : Type 0} → Reader Y → (X → List ℕ → Type 0) → Change SourceState → Result X ReadFault → Type 0
+ReadsField reader IsText source (Ok value) = Finds IsText source value
+ReadsField reader IsText source (Err fault) = RefusesInput reader source fault
 
 -- ---- the whole input
 
@@ -95,29 +95,29 @@ ReadsAll reader IsText source (Err fault) = RefusesAtEnd reader source fault
 -- ---- a certificate
 
 -- what an answer says of the input: the certificate that it spells, or its first fault; a failure of the source and a want of memory say nothing of it
-abbrev pub Tells : Result Statement ReadFault → List ℕ → Type 0
-Tells (Ok c) input = Spells c input
-Tells (Err fault) input = IfFormat fault (λ f. IsFirstFault input f)
+abbrev pub TellsOfInput : Result CertificateModel ReadFault → List ℕ → Type 0
+TellsOfInput (Ok c) input = Spells c input
+TellsOfInput (Err fault) input = IfFormat fault (λ f. IsFirstFormatFault input f)
 
 -- this is answered, but for a failure of the source or a want of memory
-abbrev pub AnswersOrLacks : Result Statement ReadFault → Result Statement ReadFault → Type 0
+abbrev pub AnswersOrLacks : Result CertificateModel ReadFault → Result CertificateModel ReadFault → Type 0
 AnswersOrLacks result answer = (result ≡ answer) ⊎ (result ≡ Err Failed) ⊎ ((refused : OutOfMemory) × (result ≡ Err (NoMemory refused)))
 
 -- an input that spells a certificate is answered by it, and one with a first fault by that
-pub record IsAnswerTo (result : Result Statement ReadFault) (input : List ℕ) : Type 0 where
-  pub spelled : (c : Statement) → Spells c input → AnswersOrLacks result (Ok c)
-  pub faulty : (fault : FormatFault) → IsFirstFault input fault → AnswersOrLacks result (Err (Format fault))
+pub record IsAnswerTo (result : Result CertificateModel ReadFault) (input : List ℕ) : Type 0 where
+  pub spelled : (c : CertificateModel) → Spells c input → AnswersOrLacks result (Ok c)
+  pub faulty : (fault : FormatFault) → IsFirstFormatFault input fault → AnswersOrLacks result (Err (Format fault))
 
 -- No more is taken of the source than shows the fault: a fault of the bytes is their first and shows with the last that was taken, or at the end; and a source fails, or memory is wanting, where no fault stands in what was taken.
 pub record StopsAtFault (source : Change SourceState) (fault : ReadFault) : Type 0 where
   pub seen : List ℕ
   pub taken : Takes source seen
-  pub is : IfFormat fault (λ f. IsFirstFault seen f)
-  pub stops : Stops (λ bytes. HasNoFault certificate bytes) source seen fault
+  pub is : IfFormat fault (λ f. IsFirstFormatFault seen f)
+  pub stops : StopsAt (λ bytes. HasNoFault certificate bytes) source seen fault
 
 -- A certificate is read: the answer tells of the input, it is a failure exactly where the source has failed, and no more is taken than the spelling or than shows the fault.
-pub record ReadsCertificate (source : Change SourceState) (result : Result Statement ReadFault) : Type 0 where
-  pub tells : IfSome source.before.left (Tells result)
+pub record ReadsCertificate (source : Change SourceState) (result : Result CertificateModel ReadFault) : Type 0 where
+  pub tells : IfSome source.before.left (TellsOfInput result)
   pub answer : IfSome source.before.left (IsAnswerTo result)
   pub failed : (result ≡ Err Failed) ↔ (source.after.has_failed ≡ true)
   pub taken : IfOk result (λ c. Takes source (spelling c))

@@ -5,19 +5,19 @@ use Rattle.std.specs.Int.{w32, w64, to_le_bytes}
 use Rattle.board.specs.declared.moves.Move.{Move}
 use Rattle.board.specs.Letters.{letter_of}
 use Rattle.board.specs.Equality.{rule_eq}
-use Rattle.board.specs.Positions.{Position}
-use Rattle.board.specs.CostRules.{CostRule, unit_rule, face_rule}
-use Rattle.pattern_index.specs.Selections.{Selection}
+use Rattle.board.specs.Boards.{BoardModel}
+use Rattle.board.specs.Weights.{WeightsModel, unit_rule, face_rule}
+use Rattle.pattern_index.specs.Groups.{GroupModel}
 use Rattle.certificate.specs.declared.certificate.Version.{Version}
 use Rattle.certificate.specs.declared.certificate.Version.TheVariants.{One, Two}
-use Rattle.certificate.specs.Certificates.{Statement, IsCertificate}
+use Rattle.certificate.specs.Certificates.{CertificateModel, IsCertificate}
 
 -- 0 where every move costs 1, 1 where moving tile t costs t, else 2
-abbrev pub kind_of : CostRule → ℕ
+abbrev pub kind_of : WeightsModel → ℕ
 kind_of costs = if rule_eq costs (unit_rule costs.grid) then 0 else if rule_eq costs (face_rule costs.grid) then 1 else 2
 
 -- what follows the kind: of kind 2 the weights of tiles 1, 2, .. in order
-abbrev pub weights_text : ℕ → CostRule → List ℕ
+abbrev pub weights_text : ℕ → WeightsModel → List ℕ
 weights_text zero costs = []
 weights_text (suc zero) costs = []
 weights_text (suc (suc kind)) costs = drop 1 costs.weights
@@ -42,11 +42,11 @@ abbrev pub beginning_text : Version → ℕ → List ℕ
 beginning_text version claim = version_text version ++ claim_text version claim
 
 -- the sides of the boards, and the costs
-unfoldable pub opening_text : CostRule → List ℕ
+unfoldable pub opening_text : WeightsModel → List ℕ
 opening_text costs = costs.grid.rows ∷ costs.grid.cols ∷ kind_of costs ∷ weights_text (kind_of costs) costs
 
 -- the number of tiles, and the tiles
-abbrev pub group_text : Selection → List ℕ
+abbrev pub group_text : GroupModel → List ℕ
 group_text g = length g.tiles ∷ g.tiles
 
 -- a cost, or the length of a plan: four bytes
@@ -67,33 +67,33 @@ claimed_text cost (Some plan) = number_text cost ++ plan_text plan
 claimed_text bound None = number_text bound
 
 -- the tiles, and the cost
-abbrev pub row_text : Position × ℕ → List ℕ
+abbrev pub row_text : BoardModel × ℕ → List ℕ
 row_text row = row.0.tiles ++ number_text row.1
 
 -- all before the boards, but for the number of groups, which is given
-abbrev pub heading : ℕ → Statement → List ℕ
+abbrev pub heading : ℕ → CertificateModel → List ℕ
 heading count c = beginning_text c.version (claim_of c.plan) ++ (opening_text c.costs ++ (count ∷ flat_map group_text c.groups.groups))
 
 -- the number of groups, and the groups
-abbrev pub groups_text : List Selection → List ℕ
+abbrev pub groups_text : List GroupModel → List ℕ
 groups_text groups = length groups ∷ flat_map group_text groups
 
 -- the boards, and what is claimed
-abbrev pub body_text : Statement → List ℕ
+abbrev pub body_text : CertificateModel → List ℕ
 body_text c = c.start.tiles ++ (c.goal.tiles ++ claimed_text c.cost c.plan)
 
 -- all before the number of rows
-abbrev pub front_text : Statement → List ℕ
+abbrev pub front_text : CertificateModel → List ℕ
 front_text c = beginning_text c.version (claim_of c.plan) ++ (opening_text c.costs ++ (groups_text c.groups.groups ++ body_text c))
 
 -- the spelling, but for the number of rows, which is given
-abbrev pub announcement : ℕ → Statement → List ℕ
+abbrev pub announcement : ℕ → CertificateModel → List ℕ
 announcement count c = front_text c ++ (count_text count ++ flat_map row_text c.rows)
 
 -- the fields in order, and nothing after them
-abbrev pub spelling : Statement → List ℕ
+abbrev pub spelling : CertificateModel → List ℕ
 spelling c = announcement (length c.rows) c
 
 -- these bytes spell this certificate
-abbrev pub Spells : Statement → List ℕ → Type 0
+abbrev pub Spells : CertificateModel → List ℕ → Type 0
 Spells c bytes = IsCertificate c × (bytes ≡ spelling c)

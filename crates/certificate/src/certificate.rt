@@ -2,7 +2,8 @@
 
 ghost use Rattle.std.specs.Prelude.{◌≡◌, ◌≤◌, ◌↔◌, length, None, IsSome, IfSome, IsTrue};
 ghost use Rattle.std.specs.List.{AllByRecursion};
-ghost use Rattle.certificate.specs.Certificates.{Statement, statement_of, AreCostsOf, IsSplitOf};
+ghost use Rattle.certificate.specs.Certificates.{CertificateModel, statement_of, AreCostsOf};
+ghost use Rattle.certificate.specs.Certificates.{IsSplitOf};
 ghost use Rattle.certificate.specs.Certificates.{Allows, greatest, upgraded, IsBoardOf};
 ghost use Rattle.certificate.specs.Certificates.{cost_of, plan_of};
 ghost use Rattle.certificate.specs.Certificates.{IsWithinLimit, IsRow, Follows};
@@ -75,9 +76,9 @@ pub struct Certificate {
 }
 
 impl Model for Certificate {
-    ghost use Rattle.certificate.specs.Certificates.{Statement, statement_of, IsCertificate};
+    ghost use Rattle.certificate.specs.Certificates.{CertificateModel, statement_of, IsCertificate};
 
-    ghost Value = { Statement };
+    ghost Value = { CertificateModel };
 
     ghost view = { λ s. statement_of s.parts };
 

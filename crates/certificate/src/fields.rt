@@ -6,12 +6,14 @@ ghost use Rattle.std.specs.Int.{w32, w64, from_le_bytes};
 ghost use Rattle.byte_streams.specs.Streams.{change};
 ghost use Rattle.certificate.specs.Certificates.{IsBoardOf};
 ghost use Rattle.certificate.specs.Spellings.{number_text, count_text};
-ghost use Rattle.certificate.specs.Fields.{SpellsVersion, SpellsByte, SpellsNumberWithin, SpellsCount};
-ghost use Rattle.board.specs.Grids.{IsShape, cell_count};
+ghost use Rattle.certificate.specs.Fields.{SpellsVersion, SpellsByte, SpellsNumberWithin};
+ghost use Rattle.certificate.specs.Fields.{SpellsCount};
+ghost use Rattle.board.specs.Shapes.{IsShape, cell_count};
 ghost use Rattle.certificate.specs.Fields.{SpellsCosts, SpellsBoard, SpellsLetter, SpellsRow};
-ghost use Rattle.certificate.specs.Readings.{version, version_in, byte_within, number_within, count};
+ghost use Rattle.certificate.specs.Readings.{version, version_in, byte_within, number_within};
+ghost use Rattle.certificate.specs.Readings.{count};
 ghost use Rattle.certificate.specs.Readings.{costs_of, weights_in, board, letter, row, end};
-ghost use Rattle.certificate.specs.Sources.{TakesDue, Reads, ReadsAll};
+ghost use Rattle.certificate.specs.Sources.{TakesDue, ReadsField, ReadsAll};
 
 use crate::certificate::{Version, comes_after, kind};
 use crate::faults::{FormatFault, ReadFault};
@@ -44,7 +46,7 @@ pub(crate) fn fill<S: Source>(source: &mut S, text: &mut [u8]) -> Result<(), Rea
 
 // The eight bytes that each certificate begins with, which tell its version.
 pub(crate) fn read_version<S: Source>(source: &mut S) -> Result<Version, ReadFault>
-    ensures { Reads version SpellsVersion (change S.state source.old source.new) result }
+    ensures { ReadsField version SpellsVersion (change S.state source.old source.new) result }
 {
     let mut text = [0; 8];
     fill(source, &mut text)?;
@@ -69,7 +71,7 @@ fn version_from(text: &[u8; 8]) -> Option<Version>
 
 // One byte within a range.
 pub(crate) fn read_byte<S: Source>(source: &mut S, low: u8, high: u8) -> Result<u8, ReadFault>
-    ensures { Reads (byte_within low high) (SpellsByte low high)
+    ensures { ReadsField (byte_within low high) (SpellsByte low high)
         (change S.state source.old source.new) result }
 {
     let byte = next_due(source)?;
@@ -81,7 +83,7 @@ pub(crate) fn read_byte<S: Source>(source: &mut S, low: u8, high: u8) -> Result<
 
 // A number that is at most this one.
 pub(crate) fn read_number<S: Source>(source: &mut S, high: u32) -> Result<u32, ReadFault>
-    ensures { Reads (number_within high) (SpellsNumberWithin high)
+    ensures { ReadsField (number_within high) (SpellsNumberWithin high)
         (change S.state source.old source.new) result }
 {
     let mut text = [0; 4];
@@ -111,7 +113,7 @@ fn count_from(text: [u8; 8]) -> u64
 
 // The number of rows, whatever it is.
 pub(crate) fn read_count<S: Source>(source: &mut S) -> Result<u64, ReadFault>
-    ensures { Reads count SpellsCount (change S.state source.old source.new) result }
+    ensures { ReadsField count SpellsCount (change S.state source.old source.new) result }
 {
     let mut text = [0; 8];
     fill(source, &mut text)?;
@@ -120,7 +122,7 @@ pub(crate) fn read_count<S: Source>(source: &mut S) -> Result<u64, ReadFault>
 
 // The weights of tiles 1, 2, .. in order, which no kind tells.
 pub(crate) fn read_weights<S: Source>(source: &mut S, shape: Shape) -> Result<Weights, ReadFault>
-    ensures { Reads (costs_of shape 2) (SpellsCosts shape 2)
+    ensures { ReadsField (costs_of shape 2) (SpellsCosts shape 2)
         (change S.state source.old source.new) result }
 {
     let mut text = [0; 24];
@@ -150,7 +152,7 @@ fn listed_costs(shape: Shape, listed: &[u8]) -> Option<Weights>
 
 // A board of the shape.
 pub(crate) fn read_board<S: Source>(source: &mut S, shape: Shape) -> Result<Board, ReadFault>
-    ensures { Reads (board shape) (SpellsBoard shape)
+    ensures { ReadsField (board shape) (SpellsBoard shape)
         (change S.state source.old source.new) result }
 {
     let mut text = [0; 25];
@@ -164,7 +166,7 @@ pub(crate) fn read_board<S: Source>(source: &mut S, shape: Shape) -> Result<Boar
 
 // The letter of a move.
 pub(crate) fn read_letter<S: Source>(source: &mut S) -> Result<Move, ReadFault>
-    ensures { Reads letter SpellsLetter (change S.state source.old source.new) result }
+    ensures { ReadsField letter SpellsLetter (change S.state source.old source.new) result }
 {
     let byte = next_due(source)?;
     match Move::from_letter(byte) {
@@ -183,7 +185,7 @@ pub(crate) fn read_row<S: Source>(
     rows: &mut Vec<(Board, u32)>,
 ) -> Result<(Board, u32), ReadFault>
     requires { IfSome before (IsBoardOf shape) }
-    ensures row { Reads (row shape before) (SpellsRow shape before)
+    ensures row { ReadsField (row shape before) (SpellsRow shape before)
         (change S.state source.old source.new) result }
     ensures rows { rows.new.items ≡ rows.old.items }
     ensures place { OnOk result (vec_len rows.new < vec_capacity rows.new) }

@@ -1,12 +1,12 @@
 //! Groups of tiles are read from a source.
 
 ghost use Rattle.std.specs.Prelude.{◌≡◌, ◌↔◌, ◌≤◌, [], false, IsSome, IfSome};
-ghost use Rattle.board.specs.Grids.{IsShape};
+ghost use Rattle.board.specs.Shapes.{IsShape};
 ghost use Rattle.byte_streams.specs.Streams.{change};
 ghost use Rattle.certificate.specs.Fields.{IsNextGroup, SpellsTiles, SpellsGroup, SpellsGroups};
 ghost use Rattle.certificate.specs.Fields.{SpellsAllGroups};
 ghost use Rattle.certificate.specs.Readings.{tiles, group, groups, all_groups};
-ghost use Rattle.certificate.specs.Sources.{Reads};
+ghost use Rattle.certificate.specs.Sources.{ReadsField};
 
 use crate::faults::{FormatFault, ReadFault};
 use crate::fields::{fill, read_byte};
@@ -23,7 +23,7 @@ pub(crate) fn read_all_groups<S: Source>(
     shape: Shape,
 ) -> Result<Partition, ReadFault>
     requires { IsShape shape }
-    ensures { Reads (all_groups shape) (SpellsAllGroups shape)
+    ensures { ReadsField (all_groups shape) (SpellsAllGroups shape)
         (change S.state source.old source.new) result }
 {
     let count = read_byte(source, 0, 24)?;
@@ -41,7 +41,7 @@ fn read_groups<S: Source>(
 ) -> Result<Vec<Group>, ReadFault>
     requires shape { IsShape shape }
     requires fine { (S.state source.old).has_failed ≡ false }
-    ensures { Reads (groups shape [] count) (λ read. SpellsGroups shape [] count read.items)
+    ensures { ReadsField (groups shape [] count) (λ read. SpellsGroups shape [] count read.items)
         (change S.state source.old source.new) result }
 {
     let mut read = Vec::new(alloc);
@@ -58,7 +58,7 @@ fn read_groups<S: Source>(
 // The number of its tiles, and the tiles, which are in none of the groups before it.
 fn read_group<S: Source>(source: &mut S, shape: Shape, before: &[Group]) -> Result<Group, ReadFault>
     requires { IsShape shape }
-    ensures { Reads (group shape before.now) (SpellsGroup shape before.now)
+    ensures { ReadsField (group shape before.now) (SpellsGroup shape before.now)
         (change S.state source.old source.new) result }
 {
     let count = read_byte(source, 1, 24)?;
@@ -75,7 +75,7 @@ fn read_tiles<S: Source>(
     requires shape { IsShape shape }
     requires some { 1 ≤ count }
     requires few { count ≤ 24 }
-    ensures { Reads (tiles shape before.now count) (SpellsTiles shape before.now count)
+    ensures { ReadsField (tiles shape before.now count) (SpellsTiles shape before.now count)
         (change S.state source.old source.new) result }
 {
     let mut text = [0; 24];

@@ -1,17 +1,18 @@
 //! A certificate is read from a source, part by part.
 
 ghost use Rattle.std.specs.Prelude.{◌≡◌, ◌≤◌, None, false};
-ghost use Rattle.board.specs.Grids.{IsShape};
+ghost use Rattle.board.specs.Shapes.{IsShape};
 ghost use Rattle.byte_streams.specs.Streams.{change};
 ghost use Rattle.certificate.specs.Certificates.{cost_of, plan_of, statement_of};
 ghost use Rattle.certificate.specs.Spellings.{Spells};
-ghost use Rattle.certificate.specs.Fields.{SpellsClaim, SpellsBeginning, SpellsCosts, SpellsOpening};
+ghost use Rattle.certificate.specs.Fields.{SpellsClaim, SpellsBeginning, SpellsCosts};
+ghost use Rattle.certificate.specs.Fields.{SpellsOpening};
 ghost use Rattle.certificate.specs.Fields.{SpellsLetters, SpellsPlan, SpellsClaimed, SpellsRows};
 ghost use Rattle.certificate.specs.Fields.{SpellsAllRows, SpellsBody, SpellsFront};
 ghost use Rattle.certificate.specs.Readings.{claim, beginning, costs_of, opening};
 ghost use Rattle.certificate.specs.Readings.{letters, plan, claimed, rows, all_rows};
 ghost use Rattle.certificate.specs.Readings.{body, front, certificate};
-ghost use Rattle.certificate.specs.Sources.{Reads, ReadsAll, ReadsCertificate};
+ghost use Rattle.certificate.specs.Sources.{ReadsField, ReadsAll, ReadsCertificate};
 
 use crate::certificate::{Certificate, Claim, GREATEST_BOUND, Parts, Version};
 use crate::faults::ReadFault;
@@ -28,7 +29,7 @@ use std::alloc::Global;
 
 // The version, and what is claimed: 0 for a plan, 1 for a bound.
 fn read_beginning<S: Source>(source: &mut S) -> Result<(Version, u8), ReadFault>
-    ensures { Reads beginning SpellsBeginning (change S.state source.old source.new) result }
+    ensures { ReadsField beginning SpellsBeginning (change S.state source.old source.new) result }
 {
     let version = read_version(source)?;
     let claim = read_claim(source, version)?;
@@ -38,7 +39,7 @@ fn read_beginning<S: Source>(source: &mut S) -> Result<(Version, u8), ReadFault>
 // What is claimed: of version 2 a byte says it.
 fn read_claim<S: Source>(source: &mut S, version: Version) -> Result<u8, ReadFault>
     requires fine { (S.state source.old).has_failed ≡ false }
-    ensures { Reads (claim version) (SpellsClaim version)
+    ensures { ReadsField (claim version) (SpellsClaim version)
         (change S.state source.old source.new) result }
 {
     match version {
@@ -49,7 +50,7 @@ fn read_claim<S: Source>(source: &mut S, version: Version) -> Result<u8, ReadFau
 
 // The sides of the boards, and the costs.
 fn read_opening<S: Source>(source: &mut S) -> Result<Weights, ReadFault>
-    ensures { Reads opening SpellsOpening (change S.state source.old source.new) result }
+    ensures { ReadsField opening SpellsOpening (change S.state source.old source.new) result }
 {
     let rows = read_byte(source, 2, 5)?;
     let cols = read_byte(source, 2, 5)?;
@@ -63,7 +64,7 @@ fn read_costs<S: Source>(source: &mut S, shape: Shape, kind: u8) -> Result<Weigh
     requires fine { (S.state source.old).has_failed ≡ false }
     requires shape { IsShape shape }
     requires kind { kind ≤ 2 }
-    ensures { Reads (costs_of shape kind) (SpellsCosts shape kind)
+    ensures { ReadsField (costs_of shape kind) (SpellsCosts shape kind)
         (change S.state source.old source.new) result }
 {
     match kind {
@@ -75,7 +76,7 @@ fn read_costs<S: Source>(source: &mut S, shape: Shape, kind: u8) -> Result<Weigh
 
 // The length of the plan, and a letter for each move.
 fn read_plan<S: Source>(alloc: Global, source: &mut S) -> Result<Vec<Move>, ReadFault>
-    ensures { Reads plan (λ moves. SpellsPlan moves.items)
+    ensures { ReadsField plan (λ moves. SpellsPlan moves.items)
         (change S.state source.old source.new) result }
 {
     let count = read_number(source, GREATEST_COST)?;
@@ -90,7 +91,7 @@ fn read_letters<S: Source>(
     count: u32,
 ) -> Result<Vec<Move>, ReadFault>
     requires { (S.state source.old).has_failed ≡ false }
-    ensures { Reads (letters count) (λ moves. SpellsLetters count moves.items)
+    ensures { ReadsField (letters count) (λ moves. SpellsLetters count moves.items)
         (change S.state source.old source.new) result }
 {
     let mut moves = Vec::new(alloc);
@@ -112,7 +113,7 @@ fn read_rows<S: Source>(
     count: u64,
 ) -> Result<Vec<(Board, u32)>, ReadFault>
     requires { (S.state source.old).has_failed ≡ false }
-    ensures { Reads (rows shape None count) (λ read. SpellsRows shape count read.items)
+    ensures { ReadsField (rows shape None count) (λ read. SpellsRows shape count read.items)
         (change S.state source.old source.new) result }
 {
     let mut read = Vec::new(alloc);
@@ -131,7 +132,7 @@ fn read_all_rows<S: Source>(
     source: &mut S,
     shape: Shape,
 ) -> Result<Vec<(Board, u32)>, ReadFault>
-    ensures { Reads (all_rows shape) (λ read. SpellsAllRows shape read.items)
+    ensures { ReadsField (all_rows shape) (λ read. SpellsAllRows shape read.items)
         (change S.state source.old source.new) result }
 {
     let count = read_count(source)?;
@@ -140,7 +141,7 @@ fn read_all_rows<S: Source>(
 
 // The fields before the rows, with no rows.
 fn read_front<S: Source>(alloc: Global, source: &mut S) -> Result<Parts, ReadFault>
-    ensures { Reads front (λ parts. SpellsFront (statement_of parts))
+    ensures { ReadsField front (λ parts. SpellsFront (statement_of parts))
         (change S.state source.old source.new) result }
 {
     let form = read_beginning(source)?;
@@ -159,7 +160,7 @@ fn read_body<S: Source>(
     groups: Partition,
 ) -> Result<Parts, ReadFault>
     requires { claim ≤ 1 }
-    ensures { Reads (body version claim costs groups)
+    ensures { ReadsField (body version claim costs groups)
         (λ parts. SpellsBody version claim costs groups (statement_of parts))
         (change S.state source.old source.new) result }
 {
@@ -183,7 +184,7 @@ fn read_body<S: Source>(
 fn read_claimed<S: Source>(alloc: Global, source: &mut S, claim: u8) -> Result<Claim, ReadFault>
     requires fine { (S.state source.old).has_failed ≡ false }
     requires claim { claim ≤ 1 }
-    ensures { Reads (claimed claim) (λ read. SpellsClaimed claim (cost_of read, plan_of read))
+    ensures { ReadsField (claimed claim) (λ read. SpellsClaimed claim (cost_of read, plan_of read))
         (change S.state source.old source.new) result }
 {
     if claim != 0 {

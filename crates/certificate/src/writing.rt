@@ -9,7 +9,8 @@ ghost use Rattle.certificate.specs.Certificates.{cost_of, plan_of, IsWithinLimit
 ghost use Rattle.certificate.specs.Spellings.{claim_of, beginning_text};
 ghost use Rattle.certificate.specs.Spellings.{kind_of, weights_text, opening_text};
 ghost use Rattle.certificate.specs.Spellings.{number_text, count_text};
-ghost use Rattle.certificate.specs.Spellings.{group_text, groups_text, plan_text, claimed_text, row_text};
+ghost use Rattle.certificate.specs.Spellings.{group_text, groups_text, plan_text, claimed_text};
+ghost use Rattle.certificate.specs.Spellings.{row_text};
 ghost use Rattle.certificate.specs.Spellings.{body_text, front_text, spelling};
 
 use crate::certificate::{Certificate, Claim, Version, kind};

@@ -1,22 +1,22 @@
 -- Where the rows of lower keys end, and what is told of the successors of a row's board.
 use Rattle.std.specs.Prelude.{ℕ, ◌≡◌, ◌≤◌, ◌<◌, List, length, get_or, Option, option_map}
 use Rattle.board.specs.declared.moves.Move.{Move}
-use Rattle.board.specs.Positions.{Position}
-use Rattle.board.specs.CostRules.{CostRule}
+use Rattle.board.specs.Boards.{BoardModel}
+use Rattle.board.specs.Weights.{WeightsModel}
 use Rattle.board.specs.Keys.{key_of}
 use Rattle.board.specs.Moves.{successor}
-use Rattle.lower_bound.specs.Tables.{Tables, parts_of}
+use Rattle.lower_bound.specs.Tables.{BoundModel, parts_of}
 use Rattle.successor_sums.specs.Unpacked.{told_of}
 use Rattle.successor_sums.specs.declared.unpacked.Successor.{Successor}
 
 -- the boards of the rows before a place have lower keys; since that is asked for each d, the place is no further than the rows' end
-abbrev pub AreLower : List (Position × ℕ) → ℕ → ℕ → Type 0
-AreLower rows key end = (k : ℕ) (d : Position × ℕ) → k < end → key_of (get_or rows k d).0 < key
+abbrev pub AreLower : List (BoardModel × ℕ) → ℕ → ℕ → Type 0
+AreLower rows key end = (k : ℕ) (d : BoardModel × ℕ) → k < end → key_of (get_or rows k d).0 < key
 
 -- those of the rows from a place on have not
-abbrev pub AreNotLower : List (Position × ℕ) → ℕ → ℕ → Type 0
-AreNotLower rows key from = (k : ℕ) (d : Position × ℕ) → from ≤ k → k < length rows → key ≤ key_of (get_or rows k d).0
+abbrev pub AreNotLower : List (BoardModel × ℕ) → ℕ → ℕ → Type 0
+AreNotLower rows key from = (k : ℕ) (d : BoardModel × ℕ) → from ≤ k → k < length rows → key ≤ key_of (get_or rows k d).0
 
 -- this is told of the board that a move leads to, or that it leads to none
-abbrev pub IsTold : CostRule → Tables → Position → Move → Option Successor → Type 0
+abbrev pub IsTold : WeightsModel → BoundModel → BoardModel → Move → Option Successor → Type 0
 IsTold rule tables b m told = told ≡ option_map (told_of (parts_of tables) b) (successor rule b m)

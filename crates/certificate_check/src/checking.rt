@@ -2,8 +2,9 @@
 
 ghost use Rattle.std.specs.Prelude.{ℕ, IfSome, IsNone};
 ghost use Rattle.board.specs.declared.moves.Move.{Move};
-ghost use Rattle.certificate_check.specs.Refusals.{AreFit, ItsPlanLeads, IsProvedUpToRows};
-ghost use Rattle.certificate_check.specs.Refusals.{IsJudgedUpToRows, IsVerdict, IsFirstOpen, LeavesOpenAt};
+ghost use Rattle.certificate_check.specs.Refusals.{AreTablesFit, ItsPlanLeads, IsProvedUpToRows};
+ghost use Rattle.certificate_check.specs.Refusals.{IsJudgedUpToRows, IsVerdict, IsFirstOpen};
+ghost use Rattle.certificate_check.specs.Refusals.{LeavesOpenAt};
 ghost use Rattle.certificate.specs.Certificates.{IsCertificate};
 
 use crate::groups::find_unfit;
@@ -33,7 +34,7 @@ pub(crate) fn check_up_to_rows(certificate: &Certificate, bound: &Bound) -> Resu
 
 // The same, where the tables are known to be fit: they are not tested.
 pub(crate) fn check_fit_up_to_rows(certificate: &Certificate, bound: &Bound) -> Result<(), Refusal>
-    requires fit { AreFit certificate.now bound.now }
+    requires fit { AreTablesFit certificate.now bound.now }
     ensures judged { IsJudgedUpToRows certificate.now bound.now result }
     ensures certificate { IsCertificate certificate.now }
 {
@@ -48,7 +49,7 @@ pub(crate) fn check_fit_up_to_rows(certificate: &Certificate, bound: &Bound) -> 
 // that the goal has none.
 fn check_start(certificate: &Certificate, bound: &Bound) -> Result<(), Refusal>
     requires plan { ItsPlanLeads certificate.now }
-    requires fit { AreFit certificate.now bound.now }
+    requires fit { AreTablesFit certificate.now bound.now }
     ensures { IsJudgedUpToRows certificate.now bound.now result }
 {
     let _ = certificate.shape();

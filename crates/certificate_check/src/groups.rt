@@ -4,7 +4,7 @@ ghost use Rattle.std.specs.Prelude.{◌≡◌, ◌<◌, ◌↔◌, length, slice
 ghost use Rattle.std.specs.Prelude.{IsTrue, IsNone, IfSome, MatchOption};
 ghost use Rattle.lower_bound.specs.Tables.{IsTables};
 ghost use Rattle.certificate.specs.Certificates.{IsCertificate};
-ghost use Rattle.certificate_check.specs.Refusals.{AreFit, IsFitAt, IsFirstUnfit};
+ghost use Rattle.certificate_check.specs.Refusals.{AreTablesFit, IsFitAt, IsFirstUnfit};
 
 use certificate::Certificate;
 use database_build::Table;
@@ -15,7 +15,7 @@ use lower_bound::{Bound, TableList, is_potential};
 pub(crate) fn find_unfit(certificate: &Certificate, bound: &Bound) -> Option<usize>
     requires { IsCertificate certificate.now }
     ensures first { IfSome result (IsFirstUnfit certificate.now bound.now) }
-    ensures none { IsNone result → AreFit certificate.now bound.now }
+    ensures none { IsNone result → AreTablesFit certificate.now bound.now }
     ensures tables { IsTables bound.now }
 {
     if !is_of_shape(certificate, bound) {

@@ -5,7 +5,8 @@ ghost use Rattle.certificate_check.specs.Laws.{IllegalMovesAreRefusedFirst};
 ghost use Rattle.certificate_check.specs.Laws.{OtherEndsAreRefusedFirst, OtherCostsAreRefusedFirst};
 ghost use Rattle.certificate_check.specs.Laws.{FoldedTablesAreRefused};
 ghost use Rattle.certificate_check.specs.Laws.{TablesOfAnotherShapeAreRefused};
-ghost use Rattle.certificate_check.specs.Laws.{ProvedWithWholeTables, ProvedHasNoCause, NoCauseIsProved};
+ghost use Rattle.certificate_check.specs.Laws.{ProvedWithWholeTables, ProvedHasNoCause};
+ghost use Rattle.certificate_check.specs.Laws.{NoCauseIsProved};
 
 use crate::refusals::Refusal;
 

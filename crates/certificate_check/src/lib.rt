@@ -12,7 +12,7 @@ mod rows;
 mod successors;
 
 ghost use Rattle.std.specs.Prelude.{IsOk, IfOk};
-ghost use Rattle.certificate_check.specs.Refusals.{AreFit, IsVerdict};
+ghost use Rattle.certificate_check.specs.Refusals.{AreTablesFit, IsVerdict};
 
 use certificate::Certificate;
 use checking::{check_fit_up_to_rows, check_up_to_rows, conclude};
@@ -75,7 +75,7 @@ pub fn check_parallel(
 /// groups, whole, and potentials for its goal and costs, as those are that `build_bound` makes for
 /// it. They are not tested, so the time doesn't grow with their sizes.
 pub fn check_fit(certificate: &Certificate, bound: &Bound) -> Result<(), Refusal>
-    requires fit { AreFit certificate.now bound.now }
+    requires fit { AreTablesFit certificate.now bound.now }
     ensures { IsVerdict certificate.now bound.now result }
 {
     if let Err(refusal) = check_fit_up_to_rows(certificate, bound) {
@@ -91,7 +91,7 @@ pub fn check_fit_parallel(
     certificate: &Certificate,
     bound: &Bound,
 ) -> Result<Result<(), Refusal>, OutOfMemory>
-    requires fit { AreFit certificate.now bound.now }
+    requires fit { AreTablesFit certificate.now bound.now }
     ensures answered { IsOk result }
     ensures verdict { IfOk result (IsVerdict certificate.now bound.now) }
 {

@@ -4,12 +4,12 @@ ghost use Rattle.std.specs.Prelude.{◌≡◌, ◌<◌, ◌≤◌, ◌↔◌, �
 ghost use Rattle.std.specs.Prelude.{IsTrue, IsNone, IfSome};
 ghost use Rattle.std.specs.List.Sorted.{IsPartitionPoint};
 ghost use Rattle.board.specs.declared.moves.Move.{Move};
-ghost use Rattle.board.specs.Positions.{Position};
+ghost use Rattle.board.specs.Boards.{BoardModel};
 ghost use Rattle.board.specs.Equality.{number_of};
 ghost use Rattle.board.specs.Keys.{key_of};
 ghost use Rattle.board.specs.Rows.{HasRow};
 ghost use Rattle.board.specs.declared.costs.TheConstants.{GREATEST_COST};
-ghost use Rattle.lower_bound.specs.Tables.{Tables};
+ghost use Rattle.lower_bound.specs.Tables.{BoundModel};
 ghost use Rattle.lower_bound.specs.declared.bound.TheConstants.{GREATEST_SUM};
 ghost use Rattle.certificate.specs.Certificates.{IsCertificate, IsBoardOf};
 ghost use Rattle.certificate_check.specs.Refusals.{LeavesOpen, LeavesOpenAt, IsFirstOpen};
@@ -110,7 +110,7 @@ fn leaves_open(
     requires low { reached ≤ GREATEST_COST }
     requires costs { IfSome told.now (λ s. s.cost ≤ 255) }
     requires sums { IfSome told.now (λ s. s.sum ≤ GREATEST_SUM) }
-    ensures { (tables : Tables) (b : Position) (m : Move) → IsBoardOf certificate.now.grid b →
+    ensures { (tables : BoundModel) (b : BoardModel) (m : Move) → IsBoardOf certificate.now.grid b →
         IsTold certificate.now.costs tables b m told.now →
         IsTrue result ↔ LeavesOpen certificate.now tables (b, reached) m }
 {
@@ -132,7 +132,7 @@ fn has_row_at(certificate: &Certificate, at: usize, key: u128, cost: u32) -> boo
     requires certificate { IsCertificate certificate.now }
     requires at { IsPartitionPoint (λ row. key_of row.0 < key) (λ row. key ≤ key_of row.0)
         certificate.now.rows at }
-    ensures { (b : Position) → IsBoardOf certificate.now.grid b → key_of b ≡ key →
+    ensures { (b : BoardModel) → IsBoardOf certificate.now.grid b → key_of b ≡ key →
         IsTrue result ↔ HasRow certificate.now.rows b cost }
 {
     let rows = certificate.rows();

@@ -10,8 +10,8 @@ use Rattle.serde_json.specs.Data.{Data, null, boolean, number, string, array, ob
 use Rattle.serde_json.specs.Read.{read}
 use Rattle.serde_json.specs.Written.{compact_text}
 use Rattle.board.specs.declared.moves.Move.{Move}
-use Rattle.board.specs.Positions.{Position}
-use Rattle.board.specs.CostRules.{CostRule}
+use Rattle.board.specs.Boards.{BoardModel}
+use Rattle.board.specs.Weights.{WeightsModel}
 use Rattle.board.specs.Plans.{Leads, NothingBelow, IsLeast}
 use Rattle.outcomes.specs.declared.outcome.Cause.{Cause}
 use Rattle.outcomes.specs.declared.outcome.Ending.{Ending}
@@ -22,7 +22,7 @@ use Rattle.outcomes.specs.Endings.{EndAnswers, without_rows}
 use Rattle.outcomes.specs.Outcomes.{Answers, Task}
 use Rattle.outcomes.specs.declared.outcome.Cause.TheVariants.{Memory}
 use Rattle.outcomes.specs.declared.outcome.Want.TheVariants.{Refused}
-use Rattle.pattern_index.specs.Splits.{Split}
+use Rattle.pattern_index.specs.Partitions.{PartitionModel}
 use Rattle.byte_streams.specs.Streams.{SourceState, SinkState, Change}
 use Rattle.byte_streams.specs.Sink.{Puts, PutsNone}
 use Rattle.batch_lines.specs.declared.lines.TheConstants.{LINE_LIMIT}
@@ -31,14 +31,14 @@ use Rattle.batch_lines.specs.declared.lines.LineKind.TheVariants.{PassedOver, To
 use Rattle.batch_lines.specs.Words.{entry_code}
 use Rattle.batch_lines.specs.Lines.{kind_of, without_return, lines_of, onto_first, is_passed_over}
 use Rattle.reports.specs.Reports.{outcome_data, refused_data, refused_certificate_data, report_text}
-use Rattle.reports.specs.Readings.{AreSmall, HasStatus, IsReport, IsSmall, SaysNumber}
+use Rattle.reports.specs.Readings.{HasSmallNumbers, HasStatus, IsReport, IsSmall, SaysNumber}
 use Rattle.reports.specs.Readings.IsReport.{of_outcome, of_line, of_cost, of_bound, of_certificate}
 use Rattle.reports.proofs.ReadLemmas.{report_read}
 use Rattle.reports.proofs.TextLemmas.{text_other}
-use Rattle.certificate.specs.Certificates.{Statement, greatest}
+use Rattle.certificate.specs.Certificates.{CertificateModel, greatest}
 use Rattle.certificate.specs.Spellings.{Spells, spelling}
 use Rattle.certificate.specs.Faults.{format_code}
-use Rattle.certificate.specs.Sources.{Tells}
+use Rattle.certificate.specs.Sources.{TellsOfInput}
 use Rattle.certificate.specs.declared.faults.ReadFault.{ReadFault}
 use Rattle.certificate.specs.declared.faults.ReadFault.TheVariants.{Format, Failed, NoMemory}
 use Rattle.certificate.proofs.LawLemmas.{spelled_read}
@@ -51,7 +51,7 @@ use Rattle.batch_runs.specs.Meanings.{Names, IsReply, asks, questions}
 use Rattle.batch_runs.specs.Headline.{TellsTheTruth}
 use Rattle.batch_runs.proofs.TruthLemmas.{same_name, truth}
 use Rattle.certificate_runs.specs.Rules.{ProofRules, report_rules, rows_of, MayReport, ProvesTruly}
-use Rattle.certificate_runs.specs.Certifying.{claim_status, IsUncertified, NeedsReport, IsCertificateOf, HasFirst, RepliesTo, Replies, first_line}
+use Rattle.certificate_runs.specs.Certifying.{claim_status, IsUncertified, NeedsReport, IsCertificateOf, HasFirst, CertifiesLine, Replies, first_line}
 use Rattle.batch_runs.specs.FirstLines.{IsPassedOver, PassesAll}
 use Rattle.certificate_runs.specs.Outputs.{Output, IsUntouched}
 use Rattle.certificate_runs.specs.declared.faults.CertifyFault.{CertifyFault}
@@ -59,8 +59,8 @@ use Rattle.certificate_runs.specs.declared.faults.CheckFault.{CheckFault}
 use Rattle.certificate_runs.specs.declared.faults.UpgradeFault.{UpgradeFault}
 use Rattle.certificate_runs.specs.declared.faults.UpgradeFault.TheVariants.{CertificateRead, CertificateMemory}
 use Rattle.certificate_runs.specs.Upgrading.{EndsUpgrade, Upgrades}
-use Rattle.certificate_runs.specs.Checking.{claim_data, IsJudgement, IsVerdict, Checks}
-use Rattle.certificate_runs.specs.Headline.{BoundsLackRows, CertifiesTruly, ClaimsTruly, AnswersFirst, WritesAnswer, IsTrueAnswer, IsRefusedBy, SaysOf, IsTrueVerdict, WritesVerdict, IsTrueCheck, WritesUpgrade, IsTrueUpgrade}
+use Rattle.certificate_runs.specs.Checking.{claim_data, IsJudgement, IsVerdictOutput, Checks}
+use Rattle.certificate_runs.specs.Headline.{BoundsLackRows, CertifiesTruly, ClaimsTruly, AnswersFirst, WritesAnswer, IsTrueAnswer, IsCertificateRefusedBy, SaysOf, IsTrueVerdict, WritesVerdict, IsTrueCheck, WritesUpgrade, IsTrueUpgrade}
 use Rattle.certificate_runs.specs.Headline.AnswersFirst.{by_none, by_certificate, by_report}
 use Rattle.certificate_runs.specs.Laws.{CertificatesAreOfOutcomes, WantsAreOfRules, GroupsAreWantedForRows, SaidBoundsLackRows, OutcomesWithRowsAreCertified, ReportedBoundsLackRows, BoundsAreCertified, ClaimsAreOfEndings, LeastPlansAreCertified, StatusesTellClaims, OtherFaultsLeaveTheSink, OtherFaultsWriteNoVerdict, VerdictsAreOnWhatWasRead, WantsAreForVerdicts}
 use Rattle.outcomes.specs.declared.outcome.Outcome.TheVariants as outcome
@@ -162,16 +162,16 @@ module _ (rules : Rules) where
 -- ---- a certificate
 
 -- a fact of a certificate's costs, start and goal is one of the task's
-moved : (P : CostRule → Position → Position → Type 0) (task : Task) (c : Statement) → c.costs ≡ task.rule → c.start ≡ task.start → c.goal ≡ task.goal → P c.costs c.start c.goal → P task.rule task.start task.goal
+moved : (P : WeightsModel → BoardModel → BoardModel → Type 0) (task : Task) (c : CertificateModel) → c.costs ≡ task.rule → c.start ≡ task.start → c.goal ≡ task.goal → P c.costs c.start c.goal → P task.rule task.start task.goal
 moved P task c costs start goal fact =
-    subst (λ (q : Position). P task.rule task.start q) goal (subst (λ (b : Position). P task.rule b c.goal) start (subst (λ (rule : CostRule). P rule c.start c.goal) costs fact))
+    subst (λ (q : BoardModel). P task.rule task.start q) goal (subst (λ (b : BoardModel). P task.rule b c.goal) start (subst (λ (rule : WeightsModel). P rule c.start c.goal) costs fact))
 
 -- what a certificate claims is true of the task
 claims_truly : (task : Task) (cost : ℕ) (plan : Option (List Move)) → IfSome plan (λ moves. Leads task.rule task.start moves task.goal cost) → NothingBelow task.rule task.start task.goal cost → ClaimsTruly task cost plan
 claims_truly task cost (Some plan) leads below = (leads, record { reached = (plan, leads); none_below = below })
 claims_truly task cost None leads below = below
 
-certifies_truly : (split : Split) (task : Task) (c : Statement) → IsCertificateOf split task c → CertifiesTruly split task c (spelling c)
+certifies_truly : (split : PartitionModel) (task : Task) (c : CertificateModel) → IsCertificateOf split task c → CertifiesTruly split task c (spelling c)
 certifies_truly split task c of = record {
   read = spelled_read (spelling c) c (of.certificate, refl);
   groups = of.groups;
@@ -236,7 +236,7 @@ module _ (rules : ProofRules) (line : List ℕ) (n : ℕ) (small : n < 2 ^ 64) w
       let z = ap first_letter e in
       absurd (omega arith)
 
-  ending_lacks : (id : List ℕ) (b : Position) (ending : Ending) → Names rules.grid line id b → MayReport rules b (Some ending) → AreSmall ending → IsUncertified ending → BoundsLackRows rules line (report_text (outcome_data id ending))
+  ending_lacks : (id : List ℕ) (b : BoardModel) (ending : Ending) → Names rules.grid line id b → MayReport rules b (Some ending) → HasSmallNumbers ending → IsUncertified ending → BoundsLackRows rules line (report_text (outcome_data id ending))
   ending_lacks id b (Optimal cost plan) names may fits alone d reply bounded = absurd alone
   ending_lacks id b (Unsolvable why) names may fits alone d reply bounded =
       let e : HasStatus (outcome_data id (Unsolvable why)) (codes "bounded") = subst (λ (f : Data). HasStatus f (codes "bounded")) (sym (reply_is (outcome_data id (Unsolvable why)) d (of_outcome id (Unsolvable why) fits) reply)) bounded in
@@ -264,7 +264,7 @@ module _ (rules : ProofRules) (line : List ℕ) (n : ℕ) (small : n < 2 ^ 64) w
 
 -- ---- what was written
 
-module _ (split : Split) (rules : ProofRules) (truthful : ProvesTruly rules) (source : Change SourceState) (sink : Change SinkState) where
+module _ (split : PartitionModel) (rules : ProofRules) (truthful : ProvesTruly rules) (source : Change SourceState) (sink : Change SinkState) where
   none_answered : PassesAll source → IsUntouched sink → WritesAnswer split rules source sink
   none_answered (lines, all, over) same = record {
     lines = lines;
@@ -274,7 +274,7 @@ module _ (split : Split) (rules : ProofRules) (truthful : ProvesTruly rules) (so
     answer = by_none (none_ask 1 lines (recursion_from_All IsPassedOver lines over)) refl;
   }
 
-  first_answered : (output : Output) (first : HasFirst source) → RepliesTo split rules (first_line source first) (without_return first.line) output → AnswersFirst split rules (first.passed ++ first.line ∷ []) output.text
+  first_answered : (output : Output) (first : HasFirst source) → CertifiesLine split rules (first_line source first) (without_return first.line) output → AnswersFirst split rules (first.passed ++ first.line ∷ []) output.text
   first_answered output first (inl (within, (c, (id, b, given, entry, allowed, claims, rows, of), written))) =
       let over = recursion_from_All IsPassedOver first.passed first.finds.before in
       by_certificate (1 + length first.passed) first.line id b c (one_asks 1 first.passed first.line over first.finds.here) (within, entry)
@@ -299,7 +299,7 @@ module _ (split : Split) (rules : ProofRules) (truthful : ProvesTruly rules) (so
 -- ---- a certificate in, a verdict out
 
 -- what is said of a claim that is proved
-said_of : (c : Statement) (plan : Option (List Move)) → IfSome plan (λ p. Leads c.costs c.start p c.goal c.cost) → NothingBelow c.costs c.start c.goal c.cost → (IsSome plan → IsLeast c.costs c.start c.goal c.cost) → SaysOf c plan (claim_data plan c.cost)
+said_of : (c : CertificateModel) (plan : Option (List Move)) → IfSome plan (λ p. Leads c.costs c.start p c.goal c.cost) → NothingBelow c.costs c.start c.goal c.cost → (IsSome plan → IsLeast c.costs c.start c.goal c.cost) → SaysOf c plan (claim_data plan c.cost)
 said_of c (Some plan) leads below least = (refl, leads, least refl)
 said_of c None leads below least = (refl, below)
 
@@ -311,14 +311,14 @@ not_refused : (plan : Option (List Move)) (cost : ℕ) → HasStatus (claim_data
 not_refused (Some plan) cost e = let z = ap first_letter e in absurd (omega arith)
 not_refused None bound e = let z = ap first_letter e in absurd (omega arith)
 
-accepted_true : (input : List ℕ) (c : Statement) → Spells c input → ItsPlanLeads c → NothingBelow c.costs c.start c.goal c.cost → (IsSome c.plan → IsLeast c.costs c.start c.goal c.cost) → IsTrueVerdict input (claim_data c.plan c.cost)
+accepted_true : (input : List ℕ) (c : CertificateModel) → Spells c input → ItsPlanLeads c → NothingBelow c.costs c.start c.goal c.cost → (IsSome c.plan → IsLeast c.costs c.start c.goal c.cost) → IsTrueVerdict input (claim_data c.plan c.cost)
 accepted_true input c spells leads below least = record {
   status = inl (accepted_status c.plan c.cost);
   accepted = λ e. (c, spelled_read input c spells, said_of c c.plan leads below least);
   refused = λ e. absurd (not_refused c.plan c.cost e);
 }
 
-refused_true : (input code : List ℕ) → IsRefusedBy input code → IsTrueVerdict input (refused_certificate_data code)
+refused_true : (input code : List ℕ) → IsCertificateRefusedBy input code → IsTrueVerdict input (refused_certificate_data code)
 refused_true input code by = record {
   status = inr refl;
   accepted = λ e. let z = ap first_letter e in absurd (omega arith);
@@ -333,12 +333,12 @@ greatest_small : (plan : Option (List Move)) (cost : ℕ) → cost ≤ greatest 
 greatest_small (Some plan) cost low = omega (arith, low)
 greatest_small None bound low = omega (arith, low)
 
-accepted_written : (sink : Change SinkState) (input : List ℕ) (c : Statement) → Puts sink (report_text (claim_data c.plan c.cost)) → Spells c input → ItsPlanLeads c → NothingBelow c.costs c.start c.goal c.cost → (IsSome c.plan → IsLeast c.costs c.start c.goal c.cost) → WritesVerdict sink input
+accepted_written : (sink : Change SinkState) (input : List ℕ) (c : CertificateModel) → Puts sink (report_text (claim_data c.plan c.cost)) → Spells c input → ItsPlanLeads c → NothingBelow c.costs c.start c.goal c.cost → (IsSome c.plan → IsLeast c.costs c.start c.goal c.cost) → WritesVerdict sink input
 accepted_written sink input c put spells leads below least =
     let d = claim_data c.plan c.cost in
     record { line = compact_text d; value = d; put = put; json = report_read d (claim_is_report c.plan c.cost (greatest_small c.plan c.cost spells.0.cost)); truth = accepted_true input c spells leads below least }
 
-refused_written : (sink : Change SinkState) (input code : List ℕ) → Puts sink (report_text (refused_certificate_data code)) → IsRefusedBy input code → WritesVerdict sink input
+refused_written : (sink : Change SinkState) (input code : List ℕ) → Puts sink (report_text (refused_certificate_data code)) → IsCertificateRefusedBy input code → WritesVerdict sink input
 refused_written sink input code put by =
     record { line = compact_text (refused_certificate_data code); value = refused_certificate_data code; put = put; json = report_read (refused_certificate_data code) (of_certificate code); truth = refused_true input code by }
 
@@ -347,18 +347,18 @@ module _ (sink : Change SinkState) (input : List ℕ) (output : Output) (put : P
   put_text : (text : List ℕ) (status : ℕ) → output ≡ record { text = text; status = status } → Puts sink text
   put_text text status is = subst (Puts sink) (ap (λ (o : Output). o.text) is) put
 
-  judged : (c : Statement) → Spells c input → IsJudgement c output → WritesVerdict sink input
+  judged : (c : CertificateModel) → Spells c input → IsJudgement c output → WritesVerdict sink input
   judged c spells (tables, built, inl accepted) = accepted_written sink input c (put_text (report_text (claim_data c.plan c.cost)) 0 accepted.written) spells accepted.proved.plan accepted.below accepted.least
   judged c spells (tables, built, inr (refusal, first, refused)) =
       refused_written sink input (refusal_code refusal) (put_text (report_text (refused_certificate_data (refusal_code refusal))) 5 refused) (inr (c, tables, refusal, spelled_read input c spells, built, first, refl))
 
-  verdict_written : (read : Result Statement ReadFault) → Tells read input → IsVerdict read output → WritesVerdict sink input
+  verdict_written : (read : Result CertificateModel ReadFault) → TellsOfInput read input → IsVerdictOutput read output → WritesVerdict sink input
   verdict_written (Ok c) tells verdict = judged c tells verdict
   verdict_written (Err (Format fault)) tells verdict = refused_written sink input (format_code fault) (put_text (report_text (refused_certificate_data (format_code fault))) 5 verdict) (inl (fault, tells, refl))
   verdict_written (Err Failed) tells verdict = absurd verdict
   verdict_written (Err (NoMemory refused)) tells verdict = absurd verdict
 
-known : (input : Option (List ℕ)) (sink : Change SinkState) (output : Output) (read : Result Statement ReadFault) → IfSome input (Tells read) → Puts sink output.text → IsVerdict read output → IfSome input (WritesVerdict sink)
+known : (input : Option (List ℕ)) (sink : Change SinkState) (output : Output) (read : Result CertificateModel ReadFault) → IfSome input (TellsOfInput read) → Puts sink output.text → IsVerdictOutput read output → IfSome input (WritesVerdict sink)
 known None sink output read tells put verdict = tt
 known (Some input) sink output read tells put verdict = verdict_written sink input output put read tells verdict
 
@@ -388,13 +388,13 @@ none_put : (sink : Change SinkState) → IsUntouched sink → PutsNone sink
 none_put sink same = subst (λ (after : SinkState). PutsNone (record { before = sink.before; after = after })) (sym same) (Keeps-refl sink.before.contents)
 
 module _ (sink : Change SinkState) (status : ℕ) where
-  upgrade_written : (input : List ℕ) (read : Result Statement ReadFault) → Tells read input → EndsUpgrade read sink (Ok status) → WritesUpgrade sink status input
+  upgrade_written : (input : List ℕ) (read : Result CertificateModel ReadFault) → TellsOfInput read input → EndsUpgrade read sink (Ok status) → WritesUpgrade sink status input
   upgrade_written input (Ok c) tells ends = inl (c, spelled_read input c tells, ends.0.0, ends.1)
   upgrade_written input (Err (Format fault)) tells ends = inr (fault, tells, none_put sink ends.0, one_status status 5 ends.1)
   upgrade_written input (Err Failed) tells ends = absurd (no_status status CertificateRead ends.1)
   upgrade_written input (Err (NoMemory refused)) tells ends = absurd (no_status status (CertificateMemory refused) ends.1)
 
-  upgrade_known : (input : Option (List ℕ)) (read : Result Statement ReadFault) → IfSome input (Tells read) → EndsUpgrade read sink (Ok status) → IfSome input (WritesUpgrade sink status)
+  upgrade_known : (input : Option (List ℕ)) (read : Result CertificateModel ReadFault) → IfSome input (TellsOfInput read) → EndsUpgrade read sink (Ok status) → IfSome input (WritesUpgrade sink status)
   upgrade_known None read tells ends = tt
   upgrade_known (Some input) read tells ends = upgrade_written input read tells ends
 
@@ -424,7 +424,7 @@ pub bounds_certified : BoundsAreCertified
 bounds_certified id bound best cause alone = alone
 
 -- a line to be read whose board is reported as bounded
-entry_bounded : (rules : ProofRules) (line id : List ℕ) (bound : ℕ) (best : Option (ℕ × Vec Move Global)) (cause : Cause) → kind_of line ≡ Within → AnswersEntry (report_rules rules) (without_return line) (answered id (Bounded bound best cause)) → (b : Position) × Names rules.grid line id b × rules.allows b (Some (outcome.Bounded bound best cause None))
+entry_bounded : (rules : ProofRules) (line id : List ℕ) (bound : ℕ) (best : Option (ℕ × Vec Move Global)) (cause : Cause) → kind_of line ≡ Within → AnswersEntry (report_rules rules) (without_return line) (answered id (Bounded bound best cause)) → (b : BoardModel) × Names rules.grid line id b × rules.allows b (Some (outcome.Bounded bound best cause None))
 entry_bounded rules line id bound best cause within (by_outcome name b ending entry (given, allowed, says, none) small) =
     (b, (within, entry), subst (λ (o : Outcome). rules.allows b (Some o)) (lone_bound given bound best cause says none) allowed)
 
@@ -446,10 +446,10 @@ reported_lack rules line id bound best cause is =
     entry_bounded rules line id bound best cause answers.0 answers.1
 
 -- of a board whose outcomes all have rows nothing is reported
-none_reported : (rules : ProofRules) (line id name : List ℕ) (b : Position) (ending : Ending) → Names rules.grid line id b → ((given : Outcome) → rules.allows b (Some given) → IsSome (rows_of given)) → ¬ AnswersEntry (report_rules rules) (without_return line) (answered name ending)
+none_reported : (rules : ProofRules) (line id name : List ℕ) (b : BoardModel) (ending : Ending) → Names rules.grid line id b → ((given : Outcome) → rules.allows b (Some given) → IsSome (rows_of given)) → ¬ AnswersEntry (report_rules rules) (without_return line) (answered name ending)
 none_reported rules line id name b ending names all (by_outcome other b' told entry (given, allowed, says, none) small) =
     let same = same_name rules.grid line id other b b' names (names.0, entry) in
-    let has = subst (λ (rows : Option (List (Position × ℕ))). IsSome rows) none (all given (subst (λ (p : Position). rules.allows p (Some given)) same.1 allowed)) in
+    let has = subst (λ (rows : Option (List (BoardModel × ℕ))). IsSome rows) none (all given (subst (λ (p : BoardModel). rules.allows p (Some given)) same.1 allowed)) in
     absurd (cc)
 
 pub all_certified : (rules : ProofRules) → OutcomesWithRowsAreCertified rules

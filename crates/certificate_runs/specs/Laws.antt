@@ -22,17 +22,17 @@ use Rattle.byte_streams.specs.Streams.{SourceState, SinkState, Change}
 use Rattle.batch_runs.specs.Batches.{AnswersLine}
 use Rattle.batch_runs.specs.Batches.Answer.{answered}
 use Rattle.batch_runs.specs.Meanings.{questions, Names, IsReply}
-use Rattle.pattern_index.specs.Splits.{Split}
+use Rattle.pattern_index.specs.Partitions.{PartitionModel}
 use Rattle.certificate_runs.specs.Headline.{AnswersFirst, BoundsLackRows}
-use Rattle.board.specs.Positions.{Position}
-use Rattle.certificate.specs.Certificates.{Statement}
+use Rattle.board.specs.Boards.{BoardModel}
+use Rattle.certificate.specs.Certificates.{CertificateModel}
 use Rattle.certificate.specs.declared.faults.FormatFault.{FormatFault}
 use Rattle.certificate.specs.declared.faults.ReadFault.{ReadFault}
 use Rattle.certificate.specs.declared.faults.ReadFault.TheVariants.{Format}
 use Rattle.certificate_runs.specs.Rules.{ProofRules, rows_of, report_rules}
 use Rattle.certificate_runs.specs.Outputs.{Output}
 use Rattle.certificate_runs.specs.Certifying.{Replies, Claims, NeedsReport, HasNoReply, IsCertificateFor, certificate_output}
-use Rattle.certificate_runs.specs.Checking.{Checks, EndsCheck, IsVerdict}
+use Rattle.certificate_runs.specs.Checking.{Checks, EndsCheck, IsVerdictOutput}
 use Rattle.certificate_runs.specs.declared.faults.CertifyFault.{CertifyFault}
 use Rattle.certificate_runs.specs.declared.faults.CertifyFault.TheVariants as certify
 use Rattle.certificate_runs.specs.declared.faults.CheckFault.{CheckFault}
@@ -41,7 +41,7 @@ use Rattle.certificate_runs.specs.declared.faults.CheckFault.TheVariants as chec
 -- a run that writes a certificate leaves the sink as it was, but after a fault of writing
 abbrev pub OtherFaultsLeaveTheSink : ProofRules → Type 0
 OtherFaultsLeaveTheSink rules =
-    (split : Split) (source : Change SourceState) (sink : Change SinkState) (fault : CertifyFault) → fault ≢ certify.Write → fault ≢ certify.CertificateWrite → Replies split rules source sink (Err fault) → sink.after ≡ sink.before
+    (split : PartitionModel) (source : Change SourceState) (sink : Change SinkState) (fault : CertifyFault) → fault ≢ certify.Write → fault ≢ certify.CertificateWrite → Replies split rules source sink (Err fault) → sink.after ≡ sink.before
 
 -- and so does one that checks a certificate
 abbrev pub OtherFaultsWriteNoVerdict : Type 0
@@ -49,7 +49,7 @@ OtherFaultsWriteNoVerdict = (source : Change SourceState) (sink : Change SinkSta
 
 -- where nothing is written for lines, none of them asks for an answer
 abbrev pub SilenceIsUnasked : ProofRules → Type 0
-SilenceIsUnasked rules = (split : Split) (lines : List (List ℕ)) → AnswersFirst split rules lines [] → questions 1 lines ≡ []
+SilenceIsUnasked rules = (split : PartitionModel) (lines : List (List ℕ)) → AnswersFirst split rules lines [] → questions 1 lines ≡ []
 
 -- no answer that names a least plan is reported: its certificate is written
 abbrev pub LeastPlansAreCertified : Type 0
@@ -65,12 +65,12 @@ abbrev pub ReportedBoundsLackRows : ProofRules → Type 0
 ReportedBoundsLackRows rules =
     (line id : List ℕ) (bound : ℕ) (best : Option (ℕ × Vec Move Global)) (cause : Cause)
     → AnswersLine (report_rules rules) line (answered id (Bounded bound best cause))
-    → (b : Position) × Names rules.grid line id b × rules.allows b (Some (outcome.Bounded bound best cause None))
+    → (b : BoardModel) × Names rules.grid line id b × rules.allows b (Some (outcome.Bounded bound best cause None))
 
 -- and where each outcome that a board may be answered by has rows, no ending is reported of it
 abbrev pub OutcomesWithRowsAreCertified : ProofRules → Type 0
 OutcomesWithRowsAreCertified rules =
-    (line id name : List ℕ) (b : Position) (ending : Ending)
+    (line id name : List ℕ) (b : BoardModel) (ending : Ending)
     → Names rules.grid line id b
     → ((given : Outcome) → rules.allows b (Some given) → IsSome (rows_of given))
     → ¬ AnswersLine (report_rules rules) line (answered name ending)
@@ -78,43 +78,43 @@ OutcomesWithRowsAreCertified rules =
 -- a certificate that claims what an ending says claims its plan at its cost, or its bound and no plan; of no plan at all there is none
 abbrev pub ClaimsAreOfEndings : Type 0
 ClaimsAreOfEndings =
-    ((c : Statement) (cost : ℕ) (plan : Vec Move Global) → Claims c (Optimal cost plan) → (c.cost ≡ cost) × (c.plan ≡ Some plan.items))
-    × ((c : Statement) (why : Why) → ¬ Claims c (Unsolvable why))
-    × ((c : Statement) (bound : ℕ) (best : Option (ℕ × Vec Move Global)) (cause : Cause) → Claims c (Bounded bound best cause) → (c.cost ≡ bound) × (c.plan ≡ None))
+    ((c : CertificateModel) (cost : ℕ) (plan : Vec Move Global) → Claims c (Optimal cost plan) → (c.cost ≡ cost) × (c.plan ≡ Some plan.items))
+    × ((c : CertificateModel) (why : Why) → ¬ Claims c (Unsolvable why))
+    × ((c : CertificateModel) (bound : ℕ) (best : Option (ℕ × Vec Move Global)) (cause : Cause) → Claims c (Bounded bound best cause) → (c.cost ≡ bound) × (c.plan ≡ None))
 
 -- the status is 0 just where a plan is claimed, and 1 just where none is, but a bound
 abbrev pub StatusesTellClaims : Type 0
-StatusesTellClaims = (c : Statement) → ((certificate_output c).status ≡ 0 ↔ IsSome c.plan) × ((certificate_output c).status ≡ 1 ↔ (c.plan ≡ None))
+StatusesTellClaims = (c : CertificateModel) → ((certificate_output c).status ≡ 0 ↔ IsSome c.plan) × ((certificate_output c).status ≡ 1 ↔ (c.plan ≡ None))
 
 -- a certificate was read, or a fault of the bytes
-abbrev pub IsReadOrFaulty : Result Statement ReadFault → Type 0
-IsReadOrFaulty read = ((c : Statement) × (read ≡ Ok c)) ⊎ ((fault : FormatFault) × (read ≡ Err (Format fault)))
+abbrev pub IsReadOrFaulty : Result CertificateModel ReadFault → Type 0
+IsReadOrFaulty read = ((c : CertificateModel) × (read ≡ Ok c)) ⊎ ((fault : FormatFault) × (read ≡ Err (Format fault)))
 
 -- a verdict is given on these alone
 abbrev pub VerdictsAreOnWhatWasRead : Type 0
-VerdictsAreOnWhatWasRead = (read : Result Statement ReadFault) (output : Output) → IsVerdict read output → IsReadOrFaulty read
+VerdictsAreOnWhatWasRead = (read : Result CertificateModel ReadFault) (output : Output) → IsVerdictOutput read output → IsReadOrFaulty read
 
 -- and memory is wanting for a verdict on these alone
 abbrev pub WantsAreForVerdicts : Type 0
-WantsAreForVerdicts = (read : Result Statement ReadFault) (sink : Change SinkState) (lacking : NoReport) → EndsCheck read sink (Err (check.Memory lacking)) → IsReadOrFaulty read
+WantsAreForVerdicts = (read : Result CertificateModel ReadFault) (sink : Change SinkState) (lacking : NoReport) → EndsCheck read sink (Err (check.Memory lacking)) → IsReadOrFaulty read
 
 -- a certificate for a line claims what an outcome says that the board may be answered by, and has this outcome's rows
 abbrev pub CertificatesAreOfOutcomes : ProofRules → Type 0
 CertificatesAreOfOutcomes rules =
-    (split : Split) (bytes : List ℕ) (c : Statement)
+    (split : PartitionModel) (bytes : List ℕ) (c : CertificateModel)
     → IsCertificateFor split rules bytes c
-    → (id : List ℕ) × (b : Position) × (given : Outcome) × IsEntry rules.grid bytes id b × rules.allows b (Some given) × Claims c (without_rows given) × (rows_of given ≡ Some c.rows)
+    → (id : List ℕ) × (b : BoardModel) × (given : Outcome) × IsEntry rules.grid bytes id b × rules.allows b (Some given) × Claims c (without_rows given) × (rows_of given ≡ Some c.rows)
 
 -- V3 may be reported of a board only where memory may be wanting for it
 abbrev pub WantsAreOfRules : ProofRules → Type 0
-WantsAreOfRules rules = (b : Position) → (report_rules rules).allows b None → rules.allows b None
+WantsAreOfRules rules = (b : BoardModel) → (report_rules rules).allows b None → rules.allows b None
 
 -- memory is wanting for the groups of a certificate only where the line names a board that may be answered by an outcome with rows
 abbrev pub GroupsAreWantedForRows : ProofRules → Type 0
 GroupsAreWantedForRows rules =
     (line : Line) (bytes : List ℕ) (wanting : OutOfMemory)
     → HasNoReply rules line bytes (certify.GroupsMemory wanting)
-    → (id : List ℕ) × (b : Position) × (given : Outcome) × IsEntry rules.grid bytes id b × rules.allows b (Some given) × IsSome (rows_of given)
+    → (id : List ℕ) × (b : BoardModel) × (given : Outcome) × IsEntry rules.grid bytes id b × rules.allows b (Some given) × IsSome (rows_of given)
 
 -- where an output says a bound, its board may be answered by it without rows and without a plan, since memory was refused
 abbrev pub SaidBoundsLackRows : ProofRules → Type 0
@@ -123,4 +123,4 @@ SaidBoundsLackRows rules =
     → BoundsLackRows rules line output
     → IsReply output 0 d
     → HasStatus d (codes "bounded")
-    → (id : List ℕ) × (b : Position) × (bound : ℕ) × (refused : OutOfMemory) × Names rules.grid line id b × SaysNumber d (codes "bound") bound × rules.allows b (Some (outcome.Bounded bound None (Memory (Refused refused)) None))
+    → (id : List ℕ) × (b : BoardModel) × (bound : ℕ) × (refused : OutOfMemory) × Names rules.grid line id b × SaysNumber d (codes "bound") bound × rules.allows b (Some (outcome.Bounded bound None (Memory (Refused refused)) None))

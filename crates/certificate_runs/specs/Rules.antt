@@ -1,8 +1,8 @@
 -- How boards are answered where rows are asked for, and which of the answers may be reported.
 use Rattle.std.specs.Prelude.{ℕ, ◌≡◌, List, Option, None, Some, Result, Ok, Err}
 use Rattle.memory.specs.declared.OutOfMemory.{OutOfMemory}
-use Rattle.board.specs.Grids.{Grid}
-use Rattle.board.specs.Positions.{Position}
+use Rattle.board.specs.Shapes.{ShapeModel}
+use Rattle.board.specs.Boards.{BoardModel}
 use Rattle.outcomes.specs.declared.outcome.Ending.{Ending}
 use Rattle.outcomes.specs.declared.outcome.Outcome.{Outcome}
 use Rattle.outcomes.specs.declared.outcome.Outcome.TheVariants.{Optimal, Unsolvable, Bounded}
@@ -12,28 +12,28 @@ use Rattle.batch_runs.specs.Batches.{Rules}
 
 -- the shape of the boards, what is asked of each, and which outcomes, with rows or without, it may be answered by; no outcome tells a want of memory before the first step
 pub record ProofRules : Type 1 where
-  pub grid : Grid
-  pub task : Position → Task
-  pub allows : Position → Option Outcome → Type 0
+  pub grid : ShapeModel
+  pub task : BoardModel → Task
+  pub allows : BoardModel → Option Outcome → Type 0
 
 -- each outcome that a board may be answered by answers what is asked of it
 abbrev pub ProvesTruly : ProofRules → Type 0
-ProvesTruly rules = (b : Position) (given : Outcome) → rules.allows b (Some given) → Answers (rules.task b) given
+ProvesTruly rules = (b : BoardModel) (given : Outcome) → rules.allows b (Some given) → Answers (rules.task b) given
 
 -- who proves a board's plans gives an outcome that it may be answered by, or tells a want of memory where that may be answered
-abbrev pub MayProve : ProofRules → Position → Result Outcome OutOfMemory → Type 0
+abbrev pub MayProve : ProofRules → BoardModel → Result Outcome OutOfMemory → Type 0
 MayProve rules b (Ok given) = rules.allows b (Some given)
 MayProve rules b (Err refused) = rules.allows b None
 
 -- the rows of an outcome, if it has any
-abbrev pub rows_of : Outcome → Option (List (Position × ℕ))
+abbrev pub rows_of : Outcome → Option (List (BoardModel × ℕ))
 rows_of (Optimal cost plan rows) = Some rows.items
 rows_of (Unsolvable why) = None
 rows_of (Bounded bound best cause None) = None
 rows_of (Bounded bound best cause (Some rows)) = Some rows.items
 
 -- of a board an ending may be reported where it may be answered by an outcome that says this and has no rows
-abbrev pub MayReport : ProofRules → Position → Option Ending → Type 0
+abbrev pub MayReport : ProofRules → BoardModel → Option Ending → Type 0
 MayReport rules b None = rules.allows b None
 MayReport rules b (Some ending) = (given : Outcome) × rules.allows b (Some given) × (without_rows given ≡ ending) × (rows_of given ≡ None)
 

@@ -4,52 +4,52 @@ use Rattle.byte_streams.specs.Streams.{SourceState, SinkState, Change}
 use Rattle.byte_streams.specs.Sink.{WritesAll, FailsWriting}
 use Rattle.certificate.specs.declared.faults.ReadFault.{ReadFault}
 use Rattle.certificate.specs.declared.faults.ReadFault.TheVariants.{Format, Failed, NoMemory}
-use Rattle.certificate.specs.Certificates.{Statement}
+use Rattle.certificate.specs.Certificates.{CertificateModel}
 use Rattle.certificate.specs.Sources.{ReadsCertificate}
 use Rattle.certificate.specs.Faults.{format_code}
 use Rattle.certificate_check.specs.declared.refusals.Refusal.{Refusal}
 use Rattle.certificate_check.specs.Refusals.{ItsPlanLeads, IsFirstRefusal, refusal_code}
 use Rattle.drawings.specs.declared.drawing.Style.{Style}
 use Rattle.drawings.specs.Drawings.{IsDrawing}
-use Rattle.lower_bound.specs.Tables.{Tables}
+use Rattle.lower_bound.specs.Tables.{BoundModel}
 use Rattle.certificate_runs.specs.Outputs.{Output, IsUntouched}
-use Rattle.certificate_runs.specs.Checking.{IsRefused, HasVerdict, WantsMemory}
+use Rattle.certificate_runs.specs.Checking.{IsRefusedReport, HasVerdict, WantsMemory}
 use Rattle.certificate_runs.specs.declared.faults.CheckFault.{CheckFault}
 use Rattle.certificate_runs.specs.declared.faults.CheckFault.TheVariants.{CertificateRead, CertificateMemory, Write, Memory}
 
 -- the plan leads from the start to the goal at its cost, or none is claimed, and the certificate is drawn with the status 0
-pub record IsDrawn (style : Style) (c : Statement) (output : Output) : Type 0 where
+pub record IsDrawn (style : Style) (c : CertificateModel) (output : Output) : Type 0 where
   pub leads : ItsPlanLeads c
   pub drawn : IsDrawing style c output.text
   pub well : output.status ≡ 0
 
 -- the plan does not lead so, and the cause, which is the first against the certificate with any tables, is reported with the status 5
-abbrev pub IsMisled : Statement → Output → Type 0
-IsMisled c output = (refusal : Refusal) × ((tables : Tables) → IsFirstRefusal c tables refusal) × IsRefused (refusal_code refusal) output
+abbrev pub IsMisled : CertificateModel → Output → Type 0
+IsMisled c output = (refusal : Refusal) × ((tables : BoundModel) → IsFirstRefusal c tables refusal) × IsRefusedReport (refusal_code refusal) output
 
 -- the line of a fault with this code is written; or writing failed, and a beginning of it is written; or memory was refused for it, and nothing is written
 abbrev pub PutsRefusal : List ℕ → Change SinkState → Result ℕ CheckFault → Type 0
-PutsRefusal code sink (Ok status) = (output : Output) × IsRefused code output × WritesAll sink output.text × (status ≡ output.status)
-PutsRefusal code sink (Err Write) = (output : Output) × IsRefused code output × FailsWriting sink output.text
+PutsRefusal code sink (Ok status) = (output : Output) × IsRefusedReport code output × WritesAll sink output.text × (status ≡ output.status)
+PutsRefusal code sink (Err Write) = (output : Output) × IsRefusedReport code output × FailsWriting sink output.text
 PutsRefusal code sink (Err (Memory lacking)) = IsUntouched sink
 PutsRefusal code sink (Err CertificateRead) = ⊥
 PutsRefusal code sink (Err (CertificateMemory refused)) = ⊥
 
 -- what is shown of what was read: a drawing of a certificate, or the fault of its plan, or the first fault of the bytes; nothing of a failure of the source or of being out of memory
-abbrev pub IsShown : Style → Result Statement ReadFault → Output → Type 0
-IsShown style (Ok c) output = IsDrawn style c output ⊎ IsMisled c output
-IsShown style (Err (Format fault)) output = IsRefused (format_code fault) output
-IsShown style (Err Failed) output = ⊥
-IsShown style (Err (NoMemory refused)) output = ⊥
+abbrev pub IsShowOutput : Style → Result CertificateModel ReadFault → Output → Type 0
+IsShowOutput style (Ok c) output = IsDrawn style c output ⊎ IsMisled c output
+IsShowOutput style (Err (Format fault)) output = IsRefusedReport (format_code fault) output
+IsShowOutput style (Err Failed) output = ⊥
+IsShowOutput style (Err (NoMemory refused)) output = ⊥
 
 -- How the run ends after this was read: what is to be shown is written; or writing failed, and a beginning of it is written; or memory was refused, and nothing is written. Where there is nothing to show, that is what is answered.
-abbrev pub EndsShow : Style → Result Statement ReadFault → Change SinkState → Result ℕ CheckFault → Type 0
-EndsShow style read sink (Ok status) = (output : Output) × IsShown style read output × WritesAll sink output.text × (status ≡ output.status)
-EndsShow style read sink (Err Write) = (output : Output) × IsShown style read output × FailsWriting sink output.text
+abbrev pub EndsShow : Style → Result CertificateModel ReadFault → Change SinkState → Result ℕ CheckFault → Type 0
+EndsShow style read sink (Ok status) = (output : Output) × IsShowOutput style read output × WritesAll sink output.text × (status ≡ output.status)
+EndsShow style read sink (Err Write) = (output : Output) × IsShowOutput style read output × FailsWriting sink output.text
 EndsShow style read sink (Err (Memory lacking)) = HasVerdict read × IsUntouched sink
 EndsShow style read sink (Err CertificateRead) = (read ≡ Err Failed) × IsUntouched sink
 EndsShow style read sink (Err (CertificateMemory refused)) = WantsMemory read refused × IsUntouched sink
 
 -- a certificate is read of the source, and the run ends so
 abbrev pub Shows : Style → Change SourceState → Change SinkState → Result ℕ CheckFault → Type 0
-Shows style source sink result = (read : Result Statement ReadFault) × ReadsCertificate source read × EndsShow style read sink result
+Shows style source sink result = (read : Result CertificateModel ReadFault) × ReadsCertificate source read × EndsShow style read sink result

@@ -1,6 +1,7 @@
 //! A line in, a certificate out.
 
-ghost use Rattle.std.specs.Prelude.{ℕ, ◌≡◌, ◌≢◌, ◌≤◌, ◌⊎◌, All, IfOk, IfErr, OnOk, OnErr, slice_index};
+ghost use Rattle.std.specs.Prelude.{ℕ, ◌≡◌, ◌≢◌, ◌≤◌, ◌⊎◌, All, IfOk, IfErr, OnOk, OnErr};
+ghost use Rattle.std.specs.Prelude.{slice_index};
 ghost use Rattle.pattern_search.specs.declared.finding.TheConstants.{NO_VALUE};
 ghost use Rattle.byte_streams.specs.Streams.{change};
 ghost use Rattle.byte_streams.specs.Sink.{Writes};
@@ -12,14 +13,14 @@ ghost use Rattle.certificate.specs.Certificates.{IsBoardOf, cost_of, plan_of};
 ghost use Rattle.certificate.specs.Spellings.{spelling};
 ghost use Rattle.certificate_runs.specs.declared.faults.CertifyFault.{CertifyFault};
 ghost use Rattle.batch_runs.specs.Batches.{HasFailed, no_lines, with_outcome, status_of_counts};
-ghost use Rattle.batch_runs.specs.Setups.{SetupState, task_of};
+ghost use Rattle.batch_runs.specs.Setups.{SetupModel, task_of};
 ghost use Rattle.certificate_runs.specs.Rules.{ProofRules, MayProve};
 ghost use Rattle.certificate_runs.specs.Certifying.{Replies, PutsReply};
 ghost use Rattle.certificate_runs.specs.Headline.{IsTrueAnswer};
-ghost use Rattle.certificate_runs.specs.Certifying.{AreRulesFor, IsCertificateOf, IsReply};
+ghost use Rattle.certificate_runs.specs.Certifying.{AreRulesFor, IsCertificateOf, IsCertifyReply};
 ghost use Rattle.certificate_runs.specs.Certifying.{IsMadeOf, IsCertifiable, IsAnswerOf};
 ghost use Rattle.certificate_runs.specs.Certifying.{claim_status};
-ghost use Rattle.certificate_runs.specs.Certifying.{IsRefusal, HasNoReply};
+ghost use Rattle.certificate_runs.specs.Certifying.{IsRefusalReply, HasNoReply};
 ghost use Rattle.certificate_runs.specs.Built.{HasSmallEntries, HasSmallFolds, HaveSmallEntries};
 
 use crate::faults::CertifyFault;
@@ -45,7 +46,7 @@ pub trait ProofRuled {
 /// Who answers a setup's boards with rows, as the rules allow.
 pub trait Prover: ProofRuled {
     // The setup: its tables guide the search.
-    ghost setup: { Self → SetupState };
+    ghost setup: { Self → SetupModel };
 
     // What a caller proves before each call. A prover with a closure needs its contract here.
     ghost is_callable: { Self → Type 0 };
@@ -133,7 +134,7 @@ fn reply_to_line<A: Prover>(
     requires callable { A.is_callable prover.now }
     requires kind { line.kind ≢ PassedOver }
     ensures reply { IfOk result
-        (IsReply (A.setup prover.now).tables.split (A.rules prover.now) line bytes.now) }
+        (IsCertifyReply (A.setup prover.now).tables.split (A.rules prover.now) line bytes.now) }
     ensures lacking { IfErr result (HasNoReply (A.rules prover.now) line bytes.now) }
 {
     match line.kind {
@@ -150,7 +151,7 @@ fn reply_to_entry<A: Prover>(
     bytes: &[u8],
 ) -> Result<Reply, CertifyFault>
     requires callable { A.is_callable prover.now }
-    ensures reply { IfOk result (IsReply (A.setup prover.now).tables.split (A.rules prover.now)
+    ensures reply { IfOk result (IsCertifyReply (A.setup prover.now).tables.split (A.rules prover.now)
         (record { number = number; kind = Within }) bytes.now) }
     ensures lacking { IfErr result (HasNoReply (A.rules prover.now)
         (record { number = number; kind = Within }) bytes.now) }
@@ -179,7 +180,7 @@ fn reply_to_entry<A: Prover>(
 
 // The report of a line that is refused.
 fn refuse(alloc: Global, code: &str, number: u64) -> Result<Reply, CertifyFault>
-    ensures refusal { IfOk result (IsRefusal code.now number) }
+    ensures refusal { IfOk result (IsRefusalReply code.now number) }
     ensures lacking { IfErr result (λ fault. (lacking : NoReport)
         × (fault ≡ CertifyFault.Memory lacking)) }
 {

@@ -3,9 +3,9 @@
 ghost use Rattle.std.specs.Prelude.{◌≡◌, ◌↔◌, IfOk, IsOk, IsErrOf, OnOk, IsSome, string_bytes};
 ghost use Rattle.board.specs.Plans.{NothingBelow, IsLeast};
 ghost use Rattle.certificate_check.specs.declared.refusals.Refusal.{Refusal};
-ghost use Rattle.certificate_check.specs.Refusals.{AreFit, IsProved, IsFirstRefusal};
+ghost use Rattle.certificate_check.specs.Refusals.{AreTablesFit, IsProved, IsFirstRefusal};
 ghost use Rattle.byte_streams.specs.Streams.{change};
-ghost use Rattle.certificate_runs.specs.Checking.{IsJudgementBy, IsRefused, Checks};
+ghost use Rattle.certificate_runs.specs.Checking.{IsJudgementBy, IsRefusedReport, Checks};
 ghost use Rattle.certificate_runs.specs.Checking.{claim_data, PutsVerdict};
 ghost use Rattle.certificate.specs.Certificates.{cost_of, plan_of};
 ghost use Rattle.reports.specs.Reports.{report_text};
@@ -83,7 +83,7 @@ fn build_for<R: Threads + Sync>(
     certificate: &Certificate,
 ) -> Result<Bound, OutOfMemory>
     ensures built { IfOk result (AreBuiltFor certificate.now) }
-    ensures fit { IfOk result (AreFit certificate.now) }
+    ensures fit { IfOk result (AreTablesFit certificate.now) }
 {
     // What holds of every certificate, as that its boards are of one shape, is told by this call.
     let _ = certificate.shape();
@@ -98,7 +98,7 @@ fn judge<R: Threads + Sync>(
     certificate: &Certificate,
     bound: &Bound,
 ) -> Result<(String, u8), NoReport>
-    requires fit { AreFit certificate.now bound.now }
+    requires fit { AreTablesFit certificate.now bound.now }
     ensures { IfOk result
         (λ verdict. IsJudgementBy bound.now certificate.now (verdict_output verdict)) }
 {
@@ -126,7 +126,7 @@ fn check_certificate<R: Threads + Sync>(
     certificate: &Certificate,
     bound: &Bound,
 ) -> Result<(), Refusal>
-    requires fit { AreFit certificate.now bound.now }
+    requires fit { AreTablesFit certificate.now bound.now }
     ensures accepted { IsOk result ↔ IsProved certificate.now bound.now }
     ensures below { OnOk result
         (NothingBelow certificate.now.costs certificate.now.start certificate.now.goal
@@ -145,7 +145,7 @@ fn check_certificate<R: Threads + Sync>(
 
 // The line that is written of a fault, and its status.
 pub(crate) fn refuse(alloc: Global, code: &str) -> Result<(String, u8), NoReport>
-    ensures { IfOk result (λ verdict. IsRefused code.now (verdict_output verdict)) }
+    ensures { IfOk result (λ verdict. IsRefusedReport code.now (verdict_output verdict)) }
 {
     Ok((refused_certificate_report(alloc, code)?, 5))
 }

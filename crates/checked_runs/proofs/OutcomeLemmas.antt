@@ -4,15 +4,15 @@ use Rattle.std.specs.Prelude.{All, ◌↔◌, IfSome}
 use Rattle.std.specs.Result.{IsErrOf}
 use Rattle.std.specs.declared.alloc.Global.{Global}
 use Rattle.board.specs.declared.moves.Move.{Move}
-use Rattle.board.specs.Positions.{Position, IsBoard}
+use Rattle.board.specs.Boards.{BoardModel, IsBoard}
 use Rattle.outcomes.specs.declared.outcome.Outcome.{Outcome}
 use Rattle.outcomes.specs.declared.outcome.Outcome.TheVariants.{Optimal, Unsolvable, Bounded}
-use Rattle.lower_bound.specs.Tables.{Tables, IsTables, part_of}
+use Rattle.lower_bound.specs.Tables.{BoundModel, IsTables, part_of}
 use Rattle.world_model.specs.Outcomes.{End, IsBoundOf, IsFollowedBack, AreRowsFor, IsGiven}
 use Rattle.world_model.specs.Worlds.{WorldState}
-use Rattle.certificate.specs.Certificates.{AreCostsOf, IsCertificate, Statement}
+use Rattle.certificate.specs.Certificates.{AreCostsOf, IsCertificate, CertificateModel}
 use Rattle.certificate_check.specs.declared.refusals.Refusal.{Refusal}
-use Rattle.hda_run.specs.Problems.{Problem, task_in}
+use Rattle.hda_run.specs.Jobs.{JobModel, task_in}
 use Rattle.thread_runs.specs.Solved.{IsSolved}
 use Rattle.checked_runs.specs.Certificates.{certificate_in, AreAsGood}
 use Rattle.checked_runs.specs.Checked.{IsProvedWith, IsCheckedRun, IsRefusedRun}
@@ -23,39 +23,39 @@ use Rattle.std.specs.List.{AllByRecursion}
 use Rattle.std.proofs.lemmas.List.Elements.{recursion_from_All}
 use Rattle.std.proofs.lemmas.List.Sums.{sum_by-cons}
 use Rattle.pattern_index.specs.Views.{view_of}
-use Rattle.pattern_index.specs.Selections.{Selection, IsSelection}
-use Rattle.database_build.specs.Tables.{Lookup}
-use Rattle.database_build.specs.Folds.{Fold}
+use Rattle.pattern_index.specs.Groups.{GroupModel, IsGroup}
+use Rattle.database_build.specs.Tables.{TableModel}
+use Rattle.database_build.specs.Folds.{FoldedModel}
 use Rattle.lower_bound.specs.Bounds.{Part, sum_of}
 use Rattle.lower_bound.specs.Folded.{AreFolded, folded_parts, part_folded}
 use Rattle.lower_bound.proofs.PartLemmas.{each_lookup, table_grids, whole_parts, all_folded_parts}
 use Rattle.certificate_check.proofs.RowLemmas.{proved_above, folded_below}
-use Rattle.board.specs.Grids.{Grid}
-use Rattle.board.specs.CostRules.{CostRule}
+use Rattle.board.specs.Shapes.{ShapeModel}
+use Rattle.board.specs.Weights.{WeightsModel}
 use Rattle.board.specs.Laws.{KeysAreInOrder}
 use Rattle.outcomes.specs.Outcomes.{Answers}
-use Rattle.pattern_index.specs.Splits.{Split}
+use Rattle.pattern_index.specs.Partitions.{PartitionModel}
 use Rattle.world_model.specs.Shapes.{IsTask}
 use Rattle.certificate.specs.declared.certificate.Version.TheVariants.{Two}
 use Rattle.certificate.proofs.RowLemmas.{rise, rows_fit}
 use Rattle.certificate_check.specs.Refusals.{sum_in, IsProved}
 
-module _ (p : Problem) (cost cost' : ℕ) (plan plan' : Vec Move Global) (rows rows' : Vec (Position × ℕ) Global)
+module _ (p : JobModel) (cost cost' : ℕ) (plan plan' : Vec Move Global) (rows rows' : Vec (BoardModel × ℕ) Global)
     (same : certificate_in p cost plan.items rows.items ≡ certificate_in p cost' plan'.items rows'.items) where
   -- a world gives it again
   given_again : (w : WorldState) → IsGiven w (Optimal cost plan rows) → IsGiven w (Optimal cost' plan' rows')
   given_again w (lowest, reached, low, at, given) = (lowest, reached, low, at, subst (Given (record { world = w; lowest = lowest; reached = reached })) same given)
     where
-      Given : End → Statement → Type 0
+      Given : End → CertificateModel → Type 0
       Given end c = IsBoundOf end c.cost × IfSome c.plan (λ plan. IsFollowedBack end c.cost plan) × AreRowsFor end.world c.cost c.rows
 
   -- so do the workers
-  pub solved_again : {S : Type 0} (owner_of : S → ℕ → Position → ℕ) (owners : S) (n : ℕ) → IsSolved owner_of p owners n (Optimal cost plan rows) → IsSolved owner_of p owners n (Optimal cost' plan' rows')
+  pub solved_again : {S : Type 0} (owner_of : S → ℕ → BoardModel → ℕ) (owners : S) (n : ℕ) → IsSolved owner_of p owners n (Optimal cost plan rows) → IsSolved owner_of p owners n (Optimal cost' plan' rows')
   solved_again owner_of owners n (inl (several, (w, joined, (kept, given)))) = inl (several, (w, joined, (kept, given_again w given)))
   solved_again owner_of owners n (inr ((w, run, given), left)) = inr ((w, run, given_again w given), left)
 
 -- what names no least plan claims nothing
-pub nothing_claimed : (p : Problem) (tables : Tables) (outcome : Outcome) → ((cost : ℕ) (plan : Vec Move Global) (rows : Vec (Position × ℕ) Global) → outcome ≢ Optimal cost plan rows) → IsProvedWith p tables outcome
+pub nothing_claimed : (p : JobModel) (tables : BoundModel) (outcome : Outcome) → ((cost : ℕ) (plan : Vec Move Global) (rows : Vec (BoardModel × ℕ) Global) → outcome ≢ Optimal cost plan rows) → IsProvedWith p tables outcome
 nothing_claimed p tables (Optimal cost plan rows) other = absurd (other cost plan rows refl)
 nothing_claimed p tables (Unsolvable why) other = tt
 nothing_claimed p tables (Bounded bound best cause rows) other = tt
@@ -98,12 +98,12 @@ fault_alike D E o d e P iff = ((λ is. absurd (no_fault E o e is)), (λ p. absur
 pub outcome_alike : (D E : Type 0) (o o' : Outcome) (P : Type 0) → ((answer D o ≡ answer D o') ↔ P) → (answer E o ≡ answer E o') ↔ P
 outcome_alike D E o o' P iff = ((λ is. iff.0 (ap (answer D) (one_outcome E o o' is))), (λ p. ap (answer E) (one_outcome D o o' (iff.1 p))))
 
-module _ {S : Type 0} (owner_of : S → ℕ → Position → ℕ) where
-  behind_checked : (p : Problem) (owners : S) (n : ℕ) (outcome : Outcome) → IsCheckedRun owner_of p owners n outcome → (given : Outcome) × IsSolved owner_of p owners n given
+module _ {S : Type 0} (owner_of : S → ℕ → BoardModel → ℕ) where
+  behind_checked : (p : JobModel) (owners : S) (n : ℕ) (outcome : Outcome) → IsCheckedRun owner_of p owners n outcome → (given : Outcome) × IsSolved owner_of p owners n given
   behind_checked p owners n outcome (inl solved) = (outcome, solved)
   behind_checked p owners n outcome (inr (cost, plan, rows, refused, solved, is)) = (Optimal cost plan rows, solved)
 
-  behind_refused : (p : Problem) (owners : S) (n : ℕ) (tables : Tables) (refusal : Refusal) → IsRefusedRun owner_of p owners n tables refusal → (given : Outcome) × IsSolved owner_of p owners n given
+  behind_refused : (p : JobModel) (owners : S) (n : ℕ) (tables : BoundModel) (refusal : Refusal) → IsRefusedRun owner_of p owners n tables refusal → (given : Outcome) × IsSolved owner_of p owners n given
   behind_refused p owners n tables refusal (cost, plan, rows, solved, first) = (Optimal cost plan rows, solved)
 
   -- what a checked run answers, or refuses, stands on a run
@@ -112,13 +112,13 @@ module _ {S : Type 0} (owner_of : S → ℕ → Position → ℕ) where
 
 -- ---- Whole tables, and those that were folded from them.
 
-module _ (b : Position) (board : IsBoard b) where
+module _ (b : BoardModel) (board : IsBoard b) where
   -- a group of the board's grid
-  abbrev Fits : Selection → Type 0
-  Fits g = IsSelection g × (g.grid ≡ b.grid)
+  abbrev Fits : GroupModel → Type 0
+  Fits g = IsGroup g × (g.grid ≡ b.grid)
 
   -- what folded tables say of a board adds up to no more than what the whole ones say
-  sum_low : (tables : List Lookup) (folds : List Fold) → AreFolded tables folds → AllByRecursion (λ table. Fits table.selection) tables → sum_of (folded_parts folds) b ≤ sum_of (map part_of tables) b
+  sum_low : (tables : List TableModel) (folds : List FoldedModel) → AreFolded tables folds → AllByRecursion (λ table. Fits table.selection) tables → sum_of (folded_parts folds) b ≤ sum_of (map part_of tables) b
   sum_low [] [] is fits = omega arith
   sum_low [] (f ∷ folds) is fits = absurd is
   sum_low (t ∷ tables) [] is fits = absurd is
@@ -135,11 +135,11 @@ folded_from p tables is whole sides potentials folded = record {
   whole = whole;
   potentials = potentials;
   sums = λ b board same.
-      let fit : All (λ table. IsSelection table.selection × (table.selection.grid ≡ b.grid)) tables.lookups = λ k d k_in. (
-        each_lookup (λ s. IsSelection s) tables is is.partition.groups k d k_in,
+      let fit : All (λ table. IsGroup table.selection × (table.selection.grid ≡ b.grid)) tables.lookups = λ k d k_in. (
+        each_lookup (λ s. IsGroup s) tables is is.partition.groups k d k_in,
         table_grids tables is k d k_in ∙ sides ∙ sym same,
       ) in
-      let low = sum_low b board tables.lookups p.tables.folds (folded.each whole) (recursion_from_All (λ table. IsSelection table.selection × (table.selection.grid ≡ b.grid)) tables.lookups fit) in
+      let low = sum_low b board tables.lookups p.tables.folds (folded.each whole) (recursion_from_All (λ table. IsGroup table.selection × (table.selection.grid ≡ b.grid)) tables.lookups fit) in
       let here = ap (λ (ps : List Part). sum_of ps b) (all_folded_parts p.tables folded.none_whole) in
       let there = ap (λ (ps : List Part). sum_of ps b) (whole_parts tables whole) in
       omega (arith, low, here, there);
@@ -148,15 +148,15 @@ folded_from p tables is whole sides potentials folded = record {
 -- ---- The certificate of a plan that answers a problem.
 
 -- these fields are those of it
-pub stated : (p : Problem) (shape : Grid) (costs : CostRule) (groups : Split) (start goal : Position) (cost : ℕ) (plan : List Move) (rows : List (Position × ℕ)) → shape ≡ p.goal.grid → costs ≡ p.rule → groups ≡ p.tables.split → start ≡ p.start → goal ≡ p.goal
+pub stated : (p : JobModel) (shape : ShapeModel) (costs : WeightsModel) (groups : PartitionModel) (start goal : BoardModel) (cost : ℕ) (plan : List Move) (rows : List (BoardModel × ℕ)) → shape ≡ p.goal.grid → costs ≡ p.rule → groups ≡ p.tables.split → start ≡ p.start → goal ≡ p.goal
     → record { version = Two; grid = shape; costs = costs; groups = groups; start = start; goal = goal; cost = cost; plan = Some plan; rows = rows } ≡ certificate_in p cost plan rows
 stated p shape costs groups start goal cost plan rows e1 e2 e3 e4 e5 = λ i. record { version = Two; grid = e1 i; costs = e2 i; groups = e3 i; start = e4 i; goal = e5 i; cost = cost; plan = Some plan; rows = rows }
 
 -- certificates of equal plans are equal
-pub alike : (p : Problem) (cost cost' : ℕ) (plan plan' : List Move) (rows rows' : List (Position × ℕ)) → cost ≡ cost' → Some plan ≡ Some plan' → rows ≡ rows' → certificate_in p cost plan rows ≡ certificate_in p cost' plan' rows'
+pub alike : (p : JobModel) (cost cost' : ℕ) (plan plan' : List Move) (rows rows' : List (BoardModel × ℕ)) → cost ≡ cost' → Some plan ≡ Some plan' → rows ≡ rows' → certificate_in p cost plan rows ≡ certificate_in p cost' plan' rows'
 alike p cost cost' plan plan' rows rows' e1 e2 e3 = λ i. record { version = Two; grid = p.goal.grid; costs = p.rule; groups = p.tables.split; start = p.start; goal = p.goal; cost = e1 i; plan = e2 i; rows = e3 i }
 
-module _ (p : Problem) (cost : ℕ) (plan : Vec Move Global) (rows : Vec (Position × ℕ) Global) (answers : Answers (task_in p) (Optimal cost plan rows)) (task : IsTask (task_in p)) where
+module _ (p : JobModel) (cost : ℕ) (plan : Vec Move Global) (rows : Vec (BoardModel × ℕ) Global) (answers : Answers (task_in p) (Optimal cost plan rows)) (task : IsTask (task_in p)) where
   -- it is one
   pub certificate_is : KeysAreInOrder → IsTables p.tables → p.tables.split.grid ≡ p.goal.grid → AreCostsOf p.goal.grid p.rule → length rows.items < 2 ^ 64 → IsCertificate (certificate_in p cost plan.items rows.items)
   certificate_is order tables sides costs few = record {
@@ -174,7 +174,7 @@ module _ (p : Problem) (cost : ℕ) (plan : Vec Move Global) (rows : Vec (Positi
   }
 
   -- with tables that are as good as the problem's it proves its cost
-  pub proved_with : (tables : Tables) → AreAsGood p tables → IsProved (certificate_in p cost plan.items rows.items) tables
+  pub proved_with : (tables : BoundModel) → AreAsGood p tables → IsProved (certificate_in p cost plan.items rows.items) tables
   proved_with tables good = record {
     plan = answers.0;
     fit = record { groups = good.groups; whole = good.whole; potentials = good.potentials };

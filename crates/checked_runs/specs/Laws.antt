@@ -2,17 +2,17 @@
 use Rattle.std.specs.Prelude.{◌≡◌, ℕ, Option, Some, Vec}
 use Rattle.std.specs.declared.alloc.Global.{Global}
 use Rattle.board.specs.declared.moves.Move.{Move}
-use Rattle.board.specs.Positions.{Position}
+use Rattle.board.specs.Boards.{BoardModel}
 use Rattle.outcomes.specs.declared.outcome.Cause.{Cause}
 use Rattle.outcomes.specs.declared.outcome.Outcome.TheVariants.{Optimal, Bounded}
 use Rattle.outcomes.specs.Outcomes.{Answers}
-use Rattle.lower_bound.specs.Tables.{Tables, IsTables, ArePotentials, AreWhole}
+use Rattle.lower_bound.specs.Tables.{BoundModel, IsTables, ArePotentials, AreWhole}
 use Rattle.lower_bound.specs.Lists.{IsFoldedBound}
 use Rattle.world_model.specs.Shapes.{IsTask}
 use Rattle.board.specs.Plans.{Leads}
 use Rattle.board.specs.Rows.{Proves}
 use Rattle.certificate_check.specs.Refusals.{IsProved, sum_in}
-use Rattle.hda_run.specs.Problems.{Problem, task_in}
+use Rattle.hda_run.specs.Jobs.{JobModel, task_in}
 use Rattle.certificate_check.specs.declared.refusals.Refusal.{Refusal}
 use Rattle.thread_runs.specs.Solved.{IsSolved}
 use Rattle.outcomes.specs.declared.outcome.Outcome.{Outcome}
@@ -21,12 +21,12 @@ use Rattle.checked_runs.specs.Certificates.{AreAsGood, certificate_in, bound_cer
 
 -- whole tables are as good as themselves, where they are potentials
 abbrev pub OwnTablesAreAsGood : Type 0
-OwnTablesAreAsGood = (p : Problem) → AreWhole p.tables → ArePotentials p.rule p.goal p.tables → AreAsGood p p.tables
+OwnTablesAreAsGood = (p : JobModel) → AreWhole p.tables → ArePotentials p.rule p.goal p.tables → AreAsGood p p.tables
 
 -- whole tables of the goal's grid that are potentials are as good as those that were folded from them
 abbrev pub TablesFoldedFromAreAsGood : Type 0
 TablesFoldedFromAreAsGood =
-    (p : Problem) (tables : Tables)
+    (p : JobModel) (tables : BoundModel)
     → IsTables tables
     → AreWhole tables
     → tables.split.grid ≡ p.goal.grid
@@ -37,7 +37,7 @@ TablesFoldedFromAreAsGood =
 -- the certificate of a bound that answers a problem with its rows is accepted with tables that are as good as the problem's
 abbrev pub BoundsAreAccepted : Type 0
 BoundsAreAccepted =
-    (p : Problem) (tables : Tables) (bound : ℕ) (best : Option (ℕ × Vec Move Global)) (cause : Cause) (rows : Vec (Position × ℕ) Global)
+    (p : JobModel) (tables : BoundModel) (bound : ℕ) (best : Option (ℕ × Vec Move Global)) (cause : Cause) (rows : Vec (BoardModel × ℕ) Global)
     → IsTask (task_in p)
     → AreAsGood p tables
     → Answers (task_in p) (Bounded bound best cause (Some rows))
@@ -47,7 +47,7 @@ BoundsAreAccepted =
 -- are whole potentials, or else the whole potentials that its own were folded from.
 abbrev pub PlansAreAccepted : Type 0
 PlansAreAccepted =
-    (p : Problem) (tables : Tables) (cost : ℕ) (plan : Vec Move Global) (rows : Vec (Position × ℕ) Global)
+    (p : JobModel) (tables : BoundModel) (cost : ℕ) (plan : Vec Move Global) (rows : Vec (BoardModel × ℕ) Global)
     → IsTask (task_in p)
     → AreAsGood p tables
     → Answers (task_in p) (Optimal cost plan rows)
@@ -56,14 +56,14 @@ PlansAreAccepted =
 -- a plan that is called least, and is proved with these tables, leads from the problem's start to its goal at its cost, which its rows prove with their sums
 abbrev pub ProvedPlansAreLeast : Type 0
 ProvedPlansAreLeast =
-    (p : Problem) (tables : Tables) (cost : ℕ) (plan : Vec Move Global) (rows : Vec (Position × ℕ) Global)
+    (p : JobModel) (tables : BoundModel) (cost : ℕ) (plan : Vec Move Global) (rows : Vec (BoardModel × ℕ) Global)
     → IsProvedWith p tables (Optimal cost plan rows)
     → Leads p.rule p.start plan.items p.goal cost × Proves p.rule rows.items (sum_in tables) p.start p.goal cost
 
-module _ {S : Type 0} (owner_of : S → ℕ → Position → ℕ) where
+module _ {S : Type 0} (owner_of : S → ℕ → BoardModel → ℕ) where
   -- behind the outcome of a checked run, and behind a certificate that is refused, stands what n workers answer, or one alone
   abbrev pub CheckedRunsAreRuns : Type 0
   CheckedRunsAreRuns =
-      (p : Problem) (owners : S) (n : ℕ) (outcome : Outcome) (tables : Tables) (refusal : Refusal)
+      (p : JobModel) (owners : S) (n : ℕ) (outcome : Outcome) (tables : BoundModel) (refusal : Refusal)
       → (IsCheckedRun owner_of p owners n outcome → (given : Outcome) × IsSolved owner_of p owners n given)
       × (IsRefusedRun owner_of p owners n tables refusal → (given : Outcome) × IsSolved owner_of p owners n given)

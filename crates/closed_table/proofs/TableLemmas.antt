@@ -17,7 +17,7 @@ use Rattle.world_model.specs.declared.parts.Known.{Known}
 use Rattle.world_model.specs.Knowledge.{is_news}
 use Rattle.closed_table.specs.declared.index.Slot.{Slot}
 use Rattle.closed_table.specs.declared.table.Relaxed.TheVariants.{Lower, Kept}
-use Rattle.closed_table.specs.Tables.{Table, IsTable, relaxation_answer, arrivals, room_after, table_relaxation}
+use Rattle.closed_table.specs.Tables.{ClosedModel, IsTable, relaxation_answer, arrivals, room_after, table_relaxation}
 use Rattle.closed_table.specs.Chains.{slot_at, no_slot, key_in, key_at, row_of, rows_of}
 
 finds_here : (es : List (ℕ × Known)) (e : ℕ × Known) (key : ℕ) → e.0 ≡ key → find nat_cmp key (e ∷ es) ≡ Some e.1
@@ -151,8 +151,8 @@ module _ (slots : List Slot) (len : ℕ) (le : len ≤ length slots) where
 
   -- the table with one slot changed that keeps its key
   pub changed : AreDifferent slots len → (i room : ℕ) (slot : Slot) → i < len → key_in slot ≡ key_at slots i
-      → (let t : Table = record { keys = map (λ (r : ℕ × Known). r.0) (rows_of (set slots i slot) len); known = from_entries (rows_of (set slots i slot) len); room = room } in t)
-      ≡ (let t : Table = record { keys = map (λ (r : ℕ × Known). r.0) (rows_of slots len); known = insert (from_entries (rows_of slots len)) (key_in slot) (row_of slot).1; room = room } in t)
+      → (let t : ClosedModel = record { keys = map (λ (r : ℕ × Known). r.0) (rows_of (set slots i slot) len); known = from_entries (rows_of (set slots i slot) len); room = room } in t)
+      ≡ (let t : ClosedModel = record { keys = map (λ (r : ℕ × Known). r.0) (rows_of slots len); known = insert (from_entries (rows_of slots len)) (key_in slot) (row_of slot).1; room = room } in t)
   changed different i room slot lt same =
       let keys_same : map (λ (r : ℕ × Known). r.0) (rows_of (set slots i slot) len) ≡ map (λ (r : ℕ × Known). r.0) (rows_of slots len) =
       ap (λ rows. map (λ (r : ℕ × Known). r.0) rows) (rows_after_set different i slot lt same) ∙ map-set_same (λ (r : ℕ × Known). r.0) (rows_of slots len) i (row_of slot) (row_of no_slot) (same ∙ ap (λ (r : ℕ × Known). r.0) (sym (row_at slots len i le lt))) in
@@ -160,8 +160,8 @@ module _ (slots : List Slot) (len : ℕ) (le : len ≤ length slots) where
 
 -- the table with one row more
 pub pushed : (rows more : List (ℕ × Known)) (key room : ℕ) (k : Known) → more ≡ rows ++ (key, k) ∷ [] → find nat_cmp key rows ≡ None
-    → (let t : Table = record { keys = map (λ (r : ℕ × Known). r.0) more; known = from_entries more; room = room } in t)
-    ≡ (let t : Table = record { keys = map (λ (r : ℕ × Known). r.0) rows ++ key ∷ []; known = insert (from_entries rows) key k; room = room } in t)
+    → (let t : ClosedModel = record { keys = map (λ (r : ℕ × Known). r.0) more; known = from_entries more; room = room } in t)
+    ≡ (let t : ClosedModel = record { keys = map (λ (r : ℕ × Known). r.0) rows ++ key ∷ []; known = insert (from_entries rows) key k; room = room } in t)
 pushed rows more key room k is none =
     let keys_more : map (λ (r : ℕ × Known). r.0) more ≡ map (λ (r : ℕ × Known). r.0) rows ++ key ∷ [] = ap (λ (es : List (ℕ × Known)). map (λ (r : ℕ × Known). r.0) es) is ∙ map_push (λ (r : ℕ × Known). r.0) rows (key, k) in
     let known_more : from_entries {R = nat_cmp} more ≡ insert (from_entries rows) key k = ap (λ (es : List (ℕ × Known)). from_entries {R = nat_cmp} es) is ∙ from_entries_push nat_cmp_total nat_cmp-IsAntisymmetric rows key k none in
@@ -178,22 +178,22 @@ abbrev pub met_at : ℕ → Move → Known
 met_at cost via = record { cost = cost; expanded = false; via = via }
 
 -- the table after each of the three answers
-module _ (t : Table) (key cost : ℕ) (via : Move) where
-  pub table_new : get t.known key ≡ None → table_relaxation t key cost via ≡ (let after : Table = record { keys = t.keys ++ key ∷ []; known = insert t.known key (met_at cost via); room = t.room - 1 } in after)
+module _ (t : ClosedModel) (key cost : ℕ) (via : Move) where
+  pub table_new : get t.known key ≡ None → table_relaxation t key cost via ≡ (let after : ClosedModel = record { keys = t.keys ++ key ∷ []; known = insert t.known key (met_at cost via); room = t.room - 1 } in after)
   table_new is = λ q. record {
     keys = arrivals (is q) t.keys key;
     known = if is_news (is q) cost then insert t.known key (met_at cost via) else t.known;
     room = room_after (is q) t.room;
   }
 
-  in_place : (k : Known) → get t.known key ≡ Some k → table_relaxation t key cost via ≡ (let after : Table = record t { known = if nat_lt cost k.cost then insert t.known key (met_at cost via) else t.known } in after)
+  in_place : (k : Known) → get t.known key ≡ Some k → table_relaxation t key cost via ≡ (let after : ClosedModel = record t { known = if nat_lt cost k.cost then insert t.known key (met_at cost via) else t.known } in after)
   in_place k is = λ q. record {
     keys = arrivals (is q) t.keys key;
     known = if is_news (is q) cost then insert t.known key (met_at cost via) else t.known;
     room = room_after (is q) t.room;
   }
 
-  pub table_lower : (k : Known) → get t.known key ≡ Some k → cost < k.cost → table_relaxation t key cost via ≡ (let after : Table = record t { known = insert t.known key (met_at cost via) } in after)
+  pub table_lower : (k : Known) → get t.known key ≡ Some k → cost < k.cost → table_relaxation t key cost via ≡ (let after : ClosedModel = record t { known = insert t.known key (met_at cost via) } in after)
   table_lower k is lt = in_place k is ∙ (λ q. record t { known = if (lt-ltb cost k.cost lt) q then insert t.known key (met_at cost via) else t.known })
 
   pub table_kept : (k : Known) → get t.known key ≡ Some k → k.cost ≤ cost → table_relaxation t key cost via ≡ t
@@ -206,5 +206,5 @@ keys_with slots len = map (λ (r : ℕ × Known). r.0) (rows_of slots len)
 abbrev pub known_with : List Slot → ℕ → FinMap nat_cmp Known
 known_with slots len = from_entries {R = nat_cmp} (rows_of slots len)
 
-abbrev pub table_with : List Slot → ℕ → ℕ → Table
+abbrev pub table_with : List Slot → ℕ → ℕ → ClosedModel
 table_with slots len room = record { keys = keys_with slots len; known = known_with slots len; room = room }

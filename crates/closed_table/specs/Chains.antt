@@ -86,11 +86,11 @@ abbrev pub HasChains : Index → ℕ → Type 0
 HasChains index n = IsIndexed index.slots index.links index.buckets index.len n index.bits
 
 -- the slots are in as many chains as there are for their number
-abbrev pub IsInOrder : Index → Type 0
-IsInOrder index = HasChains index (chain_count index.len)
+abbrev pub IsIndexInOrder : Index → Type 0
+IsIndexInOrder index = HasChains index (chain_count index.len)
 
 -- an index has n chains and this count of slots after a step, and as many places as before it
-pub record IsGrown (was index : Index) (n count : ℕ) : Type 0 where
+pub record IsIndexGrown (was index : Index) (n count : ℕ) : Type 0 where
   pub indexed : HasChains index n
   pub len : index.len ≡ count
   pub slots : length index.slots ≡ length was.slots
@@ -112,7 +112,7 @@ AreClear buckets = (chain : ℕ) → slice_index_or buckets chain no_bucket ≡ 
 
 -- the index is in order, and has buckets for the chains that it has with one slot more, which are clear before the first
 pub record HasNextChains (index : Index) : Type 0 where
-  pub indexed : IsInOrder index
+  pub indexed : IsIndexInOrder index
   pub room : chain_count (index.len + 1) ≤ length index.buckets
   pub clear : index.len ≡ 0 → AreClear index.buckets
 

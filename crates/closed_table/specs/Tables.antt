@@ -11,17 +11,17 @@ use Rattle.closed_table.specs.declared.table.Relaxed.{Relaxed}
 use Rattle.closed_table.specs.declared.table.Relaxed.TheVariants.{New, Lower, Kept}
 
 -- Keys in order of arrival, what is known of their boards, and for how many new keys there is a place.
-pub record Table : Type 0 where
+pub record ClosedModel : Type 0 where
   pub keys : List ℕ
   pub known : Knowledge
   pub room : ℕ
 
 -- no board is known
-abbrev pub empty_table : Table
+abbrev pub empty_table : ClosedModel
 empty_table = record { keys = []; known = map.empty; room = 0 }
 
 -- the keys are those of which something is known, each once
-pub record IsTable (t : Table) : Type 0 where
+pub record IsTable (t : ClosedModel) : Type 0 where
   pub each : (key : ℕ) → Contains t.keys key ↔ IsSome (map.get t.known key)
   pub once : IsDistinct nat_eq t.keys
 
@@ -41,14 +41,14 @@ room_after None room = room - 1
 room_after (Some known) room = room
 
 -- the board with this key is relaxed; a new one takes a place
-abbrev pub table_relaxation : Table → ℕ → ℕ → Move → Table
+abbrev pub table_relaxation : ClosedModel → ℕ → ℕ → Move → ClosedModel
 table_relaxation t key cost via = record { keys = arrivals (map.get t.known key) t.keys key; known = relaxation_at t.known key cost via; room = room_after (map.get t.known key) t.room }
 
 -- a board that is known so is closed
-abbrev pub table_closure : Table → ℕ → Option Known → Table
+abbrev pub table_closure : ClosedModel → ℕ → Option Known → ClosedModel
 table_closure t key None = t
 table_closure t key (Some known) = record t { known = map.insert t.known key (record known { expanded = true }) }
 
 -- tables as numbers, by which a proof tells them apart
-abbrev pub table_code : Coded Table
+abbrev pub table_code : Coded ClosedModel
 table_code = code_by (List ℕ × (Knowledge × ℕ)) (coded× (coded_list coded_ℕ) (coded× knowledge_code coded_ℕ)) (λ t. (t.keys, (t.known, t.room))) (λ p. record { keys = p.0; known = p.1.0; room = p.1.1 }) (λ _. refl)

@@ -1,10 +1,13 @@
 //! Slots in chains by the hashes of their keys.
 
 ghost use Rattle.std.specs.Prelude.{◌≡◌, ◌≢◌, ◌<◌, ◌≤◌, ◌+◌, ◌-◌, ◌*◌, ◌^◌, ◌++◌, ◌∷◌, [], ℕ};
-ghost use Rattle.std.specs.Prelude.{if◌then◌else◌, length, min, List, IsTrue, IsFalse, MatchOption, OnOk};
+ghost use Rattle.std.specs.Prelude.{if◌then◌else◌, length, min, List, IsTrue, IsFalse, MatchOption};
+ghost use Rattle.std.specs.Prelude.{OnOk};
 ghost use Rattle.std.specs.Prelude.{slice_index, slice_index_or, slice_set};
-ghost use Rattle.closed_table.specs.Chains.{hash_of, place, bucket_with, AreBitsFor, HasPlacesBelow};
-ghost use Rattle.closed_table.specs.Chains.{IsInOrder, IsGrown, IsPlace, HasNextChains, HasNoKey};
+ghost use Rattle.closed_table.specs.Chains.{hash_of, place, bucket_with, AreBitsFor};
+ghost use Rattle.closed_table.specs.Chains.{HasPlacesBelow};
+ghost use Rattle.closed_table.specs.Chains.{IsIndexInOrder, IsIndexGrown, IsPlace, HasNextChains};
+ghost use Rattle.closed_table.specs.Chains.{HasNoKey};
 ghost use Rattle.closed_table.specs.Chains.{key_at, key_in, chain_count, row_of, rows_of, new_row};
 ghost use Rattle.closed_table.specs.Chains.{part_of, stays, goes, AreClear};
 ghost use Rattle.closed_table.specs.Chains.{IsRelinked, MayBeRelinked};
@@ -213,7 +216,7 @@ fn find_inside(bucket: &Bucket, slots: &Pages<Slot>, key: u128, hash: u32) -> Op
 
 // The place of a key among the slots.
 pub(crate) fn find(index: &Index, key: u128, hash: u32) -> Option<usize>
-    requires indexed { IsInOrder index.now }
+    requires indexed { IsIndexInOrder index.now }
     requires hash { hash ≡ hash_of key }
     ensures { MatchOption result (HasNoKey index.now key)
         (λ i. (i < index.now.len) × (key_at index.now.slots i ≡ key)) }
@@ -243,7 +246,7 @@ pub(crate) fn find(index: &Index, key: u128, hash: u32) -> Option<usize>
 // Reads the buckets that `find` will read of these keys, so that the reads of memory overlap. The
 // answer means nothing.
 pub(crate) fn read_ahead(index: &Index, keys: &[u128]) -> u32
-    requires indexed { IsInOrder index.now }
+    requires indexed { IsIndexInOrder index.now }
 {
     if index.len == 0 {
         return 0;
@@ -376,10 +379,10 @@ fn read_list(index: &Index, chain: usize) -> u64 {
 
 // Adds a chain, and divides the one chain that it halves.
 fn add_chain(index: &mut Index)
-    requires indexed { IsInOrder index.old }
+    requires indexed { IsIndexInOrder index.old }
     requires many { FIRST_CHAINS * LOAD ≤ index.old.len }
     requires room { chain_count index.old.len < length index.old.buckets }
-    ensures grown { IsGrown index.old index.new (chain_count index.old.len + 1) index.old.len }
+    ensures grown { IsIndexGrown index.old index.new (chain_count index.old.len + 1) index.old.len }
     ensures slots { index.new.slots ≡ index.old.slots }
 {
     let chains = chain_count_of(index.len);
@@ -399,7 +402,7 @@ fn make_first_chains(index: &mut Index)
     requires none { index.old.len ≡ 0 }
     requires room { 127 ≤ length index.old.buckets }
     requires clear { AreClear index.old.buckets }
-    ensures grown { IsGrown index.old index.new 127 index.old.len }
+    ensures grown { IsIndexGrown index.old index.new 127 index.old.len }
     ensures slots { index.new.slots ≡ index.old.slots }
 {
     index.bits = FIRST_BITS;
@@ -408,7 +411,7 @@ fn make_first_chains(index: &mut Index)
 // Makes as many chains as are wanted where a slot is added.
 fn make_chains(index: &mut Index)
     requires { HasNextChains index.old }
-    ensures grown { IsGrown index.old index.new (chain_count (index.old.len + 1)) index.old.len }
+    ensures grown { IsIndexGrown index.old index.new (chain_count (index.old.len + 1)) index.old.len }
     ensures slots { index.new.slots ≡ index.old.slots }
 {
     if index.len == 0 {
@@ -429,7 +432,7 @@ pub(crate) fn add(index: &mut Index, key: u128, hash: u32, cost: u32, via: Move)
     requires place { IsPlace index.old.len (min (length index.old.slots) (length index.old.links)) }
     requires hash { hash ≡ hash_of key }
     requires absent { HasNoKey index.old key }
-    ensures grown { IsGrown index.old index.new (chain_count index.new.len) (index.old.len + 1) }
+    ensures grown { IsIndexGrown index.old index.new (chain_count index.new.len) (index.old.len + 1) }
     ensures rows { rows_of index.new.slots index.new.len ≡ rows_of index.old.slots index.old.len
         ++ new_row key cost via ∷ [] }
 {

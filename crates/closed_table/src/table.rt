@@ -48,16 +48,16 @@ pub struct Closed {
 }
 
 impl Model for Closed {
-    ghost use Rattle.closed_table.specs.Tables.{Table, table_code};
-    ghost use Rattle.closed_table.specs.Storage.{table_of, IsSound};
+    ghost use Rattle.closed_table.specs.Tables.{ClosedModel, table_code};
+    ghost use Rattle.closed_table.specs.Storage.{table_of, IsSoundTable};
 
-    ghost Value = { Table };
+    ghost Value = { ClosedModel };
 
     ghost coded = { table_code };
 
     ghost view = { table_of };
 
-    ghost invariant = { IsSound };
+    ghost invariant = { IsSoundTable };
 }
 
 impl Closed {

@@ -1,54 +1,54 @@
 -- The laws of what options say. Each is the contract of a function that does nothing.
 use Rattle.std.specs.Prelude.{◌≡◌, ◌↔◌, ⊤, List, Option, IsTrue, false, codes}
 use Rattle.clap.specs.Words.{Text, Row}
-use Rattle.board.specs.Grids.{Grid}
-use Rattle.board.specs.Positions.{Position}
-use Rattle.board.specs.CostRules.{CostRule}
+use Rattle.board.specs.Shapes.{ShapeModel}
+use Rattle.board.specs.Boards.{BoardModel}
+use Rattle.board.specs.Weights.{WeightsModel}
 use Rattle.board.specs.declared.faults.TilesFault.{TilesFault}
 use Rattle.board.specs.declared.faults.WeightsFault.{WeightsFault}
-use Rattle.pattern_index.specs.Splits.{IsSplit}
-use Rattle.option_texts.specs.Laws.{IsRefusal}
+use Rattle.pattern_index.specs.Partitions.{IsPartition}
+use Rattle.option_texts.specs.Laws.{IsMemoryRefusal}
 use Rattle.option_texts.specs.declared.faults.GroupsFault.{GroupsFault}
 use Rattle.command_line.specs.declared.requests.Options.{Options}
 use Rattle.command_line.specs.declared.requests.Listing.{Listing}
 use Rattle.command_line.specs.declared.faults.NoRequest.{NoRequest}
 use Rattle.command_line.specs.declared.faults.NoRequest.TheVariants.{Usage, Goal, Costs, Groups, NoListing, Memory}
-use Rattle.command_line.specs.Requests.{HasShape, IsGoalSaid, IsGoalFault, AreCostsSaid, IsCostsFault, IsSet, AreOptions, AreDefaults, OptionsFail, IsListing, ListingFails}
+use Rattle.command_line.specs.Requests.{HasShape, IsGoalSaid, IsGoalFault, AreCostsSaid, IsCostsFault, IsSet, AreOptions, AreDefaults, OptionsFail, SaysListing, ListingFails}
 
 -- the rows and columns say one shape
 abbrev pub ShapesAreDetermined : Type 0
-ShapesAreDetermined = (rows : List Row) (grid grid' : Grid) → HasShape rows grid → HasShape rows grid' → grid' ≡ grid
+ShapesAreDetermined = (rows : List Row) (grid grid' : ShapeModel) → HasShape rows grid → HasShape rows grid' → grid' ≡ grid
 
 -- one goal is said, and where one is said its text has no fault
-abbrev pub GoalsAreDetermined : Type 0
-GoalsAreDetermined = (grid : Grid) (text : Option Text) (goal goal' : Position) → IsGoalSaid grid text goal → IsGoalSaid grid text goal' → goal' ≡ goal
+abbrev pub SaidGoalsAreDetermined : Type 0
+SaidGoalsAreDetermined = (grid : ShapeModel) (text : Option Text) (goal goal' : BoardModel) → IsGoalSaid grid text goal → IsGoalSaid grid text goal' → goal' ≡ goal
 
-abbrev pub GoalsHaveNoFault : Type 0
-GoalsHaveNoFault = (grid : Grid) (text : Option Text) (goal : Position) (fault : TilesFault) → IsGoalSaid grid text goal → ¬ IsGoalFault grid text fault
+abbrev pub SaidGoalsHaveNoFault : Type 0
+SaidGoalsHaveNoFault = (grid : ShapeModel) (text : Option Text) (goal : BoardModel) (fault : TilesFault) → IsGoalSaid grid text goal → ¬ IsGoalFault grid text fault
 
 -- one rule of costs is said, and where one is said its text has no fault
-abbrev pub CostsAreDetermined : Type 0
-CostsAreDetermined = (grid : Grid) (text : Option Text) (rule rule' : CostRule) → AreCostsSaid grid text rule → AreCostsSaid grid text rule' → rule' ≡ rule
+abbrev pub SaidCostsAreDetermined : Type 0
+SaidCostsAreDetermined = (grid : ShapeModel) (text : Option Text) (rule rule' : WeightsModel) → AreCostsSaid grid text rule → AreCostsSaid grid text rule' → rule' ≡ rule
 
-abbrev pub CostsHaveNoFault : Type 0
-CostsHaveNoFault = (grid : Grid) (text : Option Text) (rule : CostRule) (fault : WeightsFault) → AreCostsSaid grid text rule → ¬ IsCostsFault grid text fault
+abbrev pub SaidCostsHaveNoFault : Type 0
+SaidCostsHaveNoFault = (grid : ShapeModel) (text : Option Text) (rule : WeightsModel) (fault : WeightsFault) → AreCostsSaid grid text rule → ¬ IsCostsFault grid text fault
 
 -- memory is refused, of which the words say nothing
 abbrev pub IsWant : NoRequest → Type 0
 IsWant (Usage text) = ⊥
 IsWant (Goal fault) = ⊥
 IsWant (Costs fault) = ⊥
-IsWant (Groups fault) = IsRefusal fault
+IsWant (Groups fault) = IsMemoryRefusal fault
 IsWant (NoListing fault) = ⊥
 IsWant Memory = ⊤
 
 -- options that are said have no fault
 abbrev pub OptionsHaveNoFault : Type 0
-OptionsHaveNoFault = (rows : List Row) (o : Options) (refusal : NoRequest) → IsSplit o.groups → AreOptions rows o → OptionsFail rows refusal → IsWant refusal
+OptionsHaveNoFault = (rows : List Row) (o : Options) (refusal : NoRequest) → IsPartition o.groups → AreOptions rows o → OptionsFail rows refusal → IsWant refusal
 
 -- so have boards that are said
 abbrev pub ListingsHaveNoFault : Type 0
-ListingsHaveNoFault = (rows : List Row) (l : Listing) (refusal : NoRequest) → IsListing rows l → ListingFails rows refusal → IsWant refusal
+ListingsHaveNoFault = (rows : List Row) (l : Listing) (refusal : NoRequest) → SaysListing rows l → ListingFails rows refusal → IsWant refusal
 
 -- the goal is judged before the costs, and these before the groups
 abbrev pub GoalsAreJudgedBeforeCosts : Type 0

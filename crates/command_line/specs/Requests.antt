@@ -4,17 +4,17 @@ use Rattle.std.specs.Str.Parse.{digits_value, without_leading_plus}
 use Rattle.clap.specs.Words.{Text, Row, App, Kinds, IsAmong, first_of, one_of, fault_of, subcommand_of}
 use Rattle.clap.specs.declared.error.kind.ErrorKind.{ErrorKind}
 use Rattle.clap.specs.declared.error.kind.ErrorKind.TheVariants.{DisplayHelp, DisplayVersion}
-use Rattle.board.specs.Grids.{Grid}
-use Rattle.board.specs.Positions.{Position, goal_of}
-use Rattle.board.specs.CostRules.{CostRule, unit_rule}
-use Rattle.pattern_index.specs.Splits.{Split}
+use Rattle.board.specs.Shapes.{ShapeModel}
+use Rattle.board.specs.Boards.{BoardModel, goal_of}
+use Rattle.board.specs.Weights.{WeightsModel, unit_rule}
+use Rattle.pattern_index.specs.Partitions.{PartitionModel}
 use Rattle.batch_lines.specs.Words.{IsFirstWordFault}
 use Rattle.batch_runs.specs.declared.setup.SpreadKind.{SpreadKind}
 use Rattle.batch_runs.specs.declared.setup.SpreadKind.TheVariants.{Zobrist, Blank}
-use Rattle.option_texts.specs.Texts.{comma_words, IsGoalOf, AreCostsOf, group_texts, AreGroupsOf}
+use Rattle.option_texts.specs.Texts.{comma_words, IsGoalOf, SaysCosts, group_texts, AreGroupsOf}
 use Rattle.option_texts.specs.Faults.{IsFirstCostsFault, IsFirstGroupsFault}
 use Rattle.option_texts.specs.Defaults.{default_groups}
-use Rattle.option_texts.specs.Laws.{IsRefusal}
+use Rattle.option_texts.specs.Laws.{IsMemoryRefusal}
 use Rattle.option_texts.specs.declared.faults.GroupsFault.{GroupsFault}
 use Rattle.board.specs.declared.faults.TilesFault.{TilesFault}
 use Rattle.board.specs.declared.faults.WeightsFault.{WeightsFault}
@@ -51,7 +51,7 @@ abbrev pub IsSet : List Row → Text → Type 0
 IsSet rows id = first_of id rows ≡ Some (codes "true")
 
 -- the shape that the rows and columns say
-pub record HasShape (rows : List Row) (grid : Grid) : Type 0 where
+pub record HasShape (rows : List Row) (grid : ShapeModel) : Type 0 where
   pub tall : HasNumber rows (codes "rows") grid.rows
   pub wide : HasNumber rows (codes "cols") grid.cols
 
@@ -75,33 +75,33 @@ pub record AreValues (rows : List Row) (v : Values) : Type 0 where
   pub stats : IsTrue v.stats ↔ IsSet rows (codes "stats")
 
 -- the goal that a text says, and where there is no text Korf's
-abbrev pub IsGoalSaid : Grid → Option Text → Position → Type 0
+abbrev pub IsGoalSaid : ShapeModel → Option Text → BoardModel → Type 0
 IsGoalSaid grid None goal = goal ≡ goal_of grid
 IsGoalSaid grid (Some text) goal = IsGoalOf grid text goal
 
 -- the first fault of that text
-abbrev pub IsGoalFault : Grid → Option Text → TilesFault → Type 0
+abbrev pub IsGoalFault : ShapeModel → Option Text → TilesFault → Type 0
 IsGoalFault grid None fault = ⊥
 IsGoalFault grid (Some text) fault = IsFirstWordFault grid (comma_words text) fault
 
 -- the costs that a text says, and where there is no text unit cost
-abbrev pub AreCostsSaid : Grid → Option Text → CostRule → Type 0
+abbrev pub AreCostsSaid : ShapeModel → Option Text → WeightsModel → Type 0
 AreCostsSaid grid None rule = rule ≡ unit_rule grid
-AreCostsSaid grid (Some text) rule = AreCostsOf grid text rule
+AreCostsSaid grid (Some text) rule = SaysCosts grid text rule
 
 -- the first fault of that text
-abbrev pub IsCostsFault : Grid → Option Text → WeightsFault → Type 0
+abbrev pub IsCostsFault : ShapeModel → Option Text → WeightsFault → Type 0
 IsCostsFault grid None fault = ⊥
 IsCostsFault grid (Some text) fault = IsFirstCostsFault grid text fault
 
 -- the groups that a text says, and where there is no text the default groups
-abbrev pub AreGroupsSaid : Grid → Option Text → Split → Type 0
+abbrev pub AreGroupsSaid : ShapeModel → Option Text → PartitionModel → Type 0
 AreGroupsSaid grid None split = (split.grid ≡ grid) × (map (λ g. g.tiles) split.groups ≡ default_groups grid)
 AreGroupsSaid grid (Some text) split = (split.grid ≡ grid) × AreGroupsOf grid (group_texts text) split.groups
 
 -- the first fault of that text; without a text only that memory is refused
-abbrev pub IsGroupsFault : Grid → Option Text → GroupsFault → Type 0
-IsGroupsFault grid None fault = IsRefusal fault
+abbrev pub IsGroupsFault : ShapeModel → Option Text → GroupsFault → Type 0
+IsGroupsFault grid None fault = IsMemoryRefusal fault
 IsGroupsFault grid (Some text) fault = IsFirstGroupsFault grid (group_texts text) fault
 
 -- what the values of a subcommand's options say
@@ -120,11 +120,11 @@ pub record AreOptions (rows : List Row) (o : Options) : Type 0 where
 -- why they say nothing: the fault of the goal's text; or where that has none, the fault of the costs' text; or where that has none either, the fault of the groups' text; and memory may be refused
 abbrev pub OptionsFail : List Row → NoRequest → Type 0
 OptionsFail rows (Usage text) = ⊥
-OptionsFail rows (Goal fault) = (grid : Grid) × HasShape rows grid × IsGoalFault grid (first_of (codes "goal") rows) fault
+OptionsFail rows (Goal fault) = (grid : ShapeModel) × HasShape rows grid × IsGoalFault grid (first_of (codes "goal") rows) fault
 OptionsFail rows (Costs fault) =
-    (grid : Grid) × HasShape rows grid × (goal : Position) × IsGoalSaid grid (first_of (codes "goal") rows) goal × IsCostsFault grid (first_of (codes "cost") rows) fault
+    (grid : ShapeModel) × HasShape rows grid × (goal : BoardModel) × IsGoalSaid grid (first_of (codes "goal") rows) goal × IsCostsFault grid (first_of (codes "cost") rows) fault
 OptionsFail rows (Groups fault) =
-    (grid : Grid) × HasShape rows grid × (goal : Position) × IsGoalSaid grid (first_of (codes "goal") rows) goal × (rule : CostRule)
+    (grid : ShapeModel) × HasShape rows grid × (goal : BoardModel) × IsGoalSaid grid (first_of (codes "goal") rows) goal × (rule : WeightsModel)
     × AreCostsSaid grid (first_of (codes "cost") rows) rule × IsGroupsFault grid (first_of (codes "groups") rows) fault
 OptionsFail rows (NoListing fault) = ⊥
 OptionsFail rows Memory = ⊤
@@ -149,7 +149,7 @@ IsChoice rows (Walked moves count seed) = (¬ IsSet rows (codes "all")) × HasNu
 IsChoice rows Whole = IsSet rows (codes "all") × IsLeftOut rows (codes "count") × IsLeftOut rows (codes "moves")
 
 -- what the values of the options of `boards` say; a whole class has a small shape
-pub record IsListing (rows : List Row) (l : Listing) : Type 0 where
+pub record SaysListing (rows : List Row) (l : Listing) : Type 0 where
   pub shape : HasShape rows l.goal.grid
   pub goal : IsGoalSaid l.goal.grid (first_of (codes "goal") rows) l.goal
   pub choice : IsChoice rows l.choice
@@ -158,12 +158,12 @@ pub record IsListing (rows : List Row) (l : Listing) : Type 0 where
 -- why they say no boards: `--all` isn't alone, or where it is the shape has too many cells
 abbrev pub IsListFault : List Row → ListFault → Type 0
 IsListFault rows NotAlone = IsSet rows (codes "all") × ((¬ IsLeftOut rows (codes "count")) ⊎ (¬ IsLeftOut rows (codes "moves")))
-IsListFault rows TooManyCells = IsChoice rows Whole × (grid : Grid) × HasShape rows grid × (¬ MayBeListed grid Whole)
+IsListFault rows TooManyCells = IsChoice rows Whole × (grid : ShapeModel) × HasShape rows grid × (¬ MayBeListed grid Whole)
 
 -- why they say nothing: that, or where they say boards the fault of the goal's text; and memory may be refused
 abbrev pub ListingFails : List Row → NoRequest → Type 0
 ListingFails rows (Usage text) = ⊥
-ListingFails rows (Goal fault) = (grid : Grid) × (choice : Choice) × HasShape rows grid × IsChoice rows choice × MayBeListed grid choice × IsGoalFault grid (first_of (codes "goal") rows) fault
+ListingFails rows (Goal fault) = (grid : ShapeModel) × (choice : Choice) × HasShape rows grid × IsChoice rows choice × MayBeListed grid choice × IsGoalFault grid (first_of (codes "goal") rows) fault
 ListingFails rows (Costs fault) = ⊥
 ListingFails rows (Groups fault) = ⊥
 ListingFails rows (NoListing fault) = IsListFault rows fault
@@ -180,7 +180,7 @@ AsksRun (Some p) Check = p.0 ≡ codes "check"
 AsksRun (Some p) (Draw look) = (p.0 ≡ codes "show") × IsStyle p.1 look
 AsksRun (Some p) Upgrade = p.0 ≡ codes "upgrade"
 AsksRun (Some p) (Replay o) = (p.0 ≡ codes "replay") × AreOptions p.1 o
-AsksRun (Some p) (Boards l) = (p.0 ≡ codes "boards") × IsListing p.1 l
+AsksRun (Some p) (Boards l) = (p.0 ≡ codes "boards") × SaysListing p.1 l
 AsksRun (Some p) (Help text) = ⊥
 AsksRun (Some p) (Version text) = ⊥
 
@@ -221,7 +221,7 @@ AsksDefaults (Solve o) = AreDefaults o
 AsksDefaults _ = ⊥
 
 abbrev pub DefaultsFail : NoRequest → Type 0
-DefaultsFail (Groups fault) = IsRefusal fault
+DefaultsFail (Groups fault) = IsMemoryRefusal fault
 DefaultsFail _ = ⊥
 
 -- what words ask for: a text, or where a parse by the program finds no fault a run

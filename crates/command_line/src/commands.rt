@@ -3,8 +3,10 @@
 ghost use Rattle.std.specs.Prelude.{◌≡◌, codes, false};
 ghost use Rattle.clap.specs.Words.{App, new_app, rule_of};
 ghost use Rattle.command_line.specs.Commands.{IsReadAs, MakesCommand, option_rule, side_rule};
-ghost use Rattle.command_line.specs.Commands.{text_rule, parsed_rule, flag_rule, count_rule, sided_app};
-ghost use Rattle.command_line.specs.Commands.{stated_app, puzzle_app, solve_app, show_app, boards_app};
+ghost use Rattle.command_line.specs.Commands.{text_rule, parsed_rule, flag_rule, count_rule};
+ghost use Rattle.command_line.specs.Commands.{sided_app};
+ghost use Rattle.command_line.specs.Commands.{stated_app, puzzle_app, solve_app, show_app};
+ghost use Rattle.command_line.specs.Commands.{boards_app};
 ghost use Rattle.command_line.specs.Commands.{top_app, proving_app, program_app};
 
 use crate::help;

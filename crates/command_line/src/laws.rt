@@ -1,8 +1,10 @@
 //! The laws of what options say: each is the contract of a function that does nothing.
 
-ghost use Rattle.command_line.specs.Laws.{ShapesAreDetermined, GoalsAreDetermined};
-ghost use Rattle.command_line.specs.Laws.{GoalsHaveNoFault, CostsAreDetermined, CostsHaveNoFault};
-ghost use Rattle.command_line.specs.Laws.{OptionsHaveNoFault, ListingsHaveNoFault, GoalsAreJudgedBeforeCosts};
+ghost use Rattle.command_line.specs.Laws.{ShapesAreDetermined, SaidGoalsAreDetermined};
+ghost use Rattle.command_line.specs.Laws.{SaidGoalsHaveNoFault, SaidCostsAreDetermined};
+ghost use Rattle.command_line.specs.Laws.{SaidCostsHaveNoFault};
+ghost use Rattle.command_line.specs.Laws.{OptionsHaveNoFault, ListingsHaveNoFault};
+ghost use Rattle.command_line.specs.Laws.{GoalsAreJudgedBeforeCosts};
 ghost use Rattle.command_line.specs.Laws.{GoalsAreJudgedBeforeGroups, CostsAreJudgedBeforeGroups};
 ghost use Rattle.command_line.specs.Laws.{FlagsAreSaid, FlagsAreOff};
 
@@ -11,10 +13,10 @@ ghost use Rattle.command_line.specs.Laws.{FlagsAreSaid, FlagsAreOff};
 #[tactic(auto, using(crate::proofs::ParseLemmas::one_shape, crate::proofs::ParseLemmas::one_goal_said, crate::proofs::ParseLemmas::goal_no_fault, crate::proofs::ParseLemmas::one_rule_said, crate::proofs::ParseLemmas::costs_no_fault))]
 pub fn options_say_one_thing()
     ensures shapes { ShapesAreDetermined }
-    ensures goals { GoalsAreDetermined }
-    ensures no_goal_fault { GoalsHaveNoFault }
-    ensures costs { CostsAreDetermined }
-    ensures no_costs_fault { CostsHaveNoFault }
+    ensures goals { SaidGoalsAreDetermined }
+    ensures no_goal_fault { SaidGoalsHaveNoFault }
+    ensures costs { SaidCostsAreDetermined }
+    ensures no_costs_fault { SaidCostsHaveNoFault }
 {}
 
 /// Options that are said have no fault, but that memory is refused; and neither have boards that are

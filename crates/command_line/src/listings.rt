@@ -1,11 +1,11 @@
 //! Which boards the options of `boards` ask for.
 
 ghost use Rattle.std.specs.Prelude.{◌≡◌, ◌↔◌, IsTrue, IfOk, IfErr, IfSome, codes};
-ghost use Rattle.board.specs.Grids.{Grid};
+ghost use Rattle.board.specs.Shapes.{ShapeModel};
 ghost use Rattle.clap.specs.Words.{found_of, rows_of};
 ghost use Rattle.board_lists.specs.Lists.{MayBeListed};
 ghost use Rattle.command_line.specs.Requests.{HasShape, HasCount, IsSet, IsLeftOut};
-ghost use Rattle.command_line.specs.Requests.{IsChoice, IsListing, ListingFails};
+ghost use Rattle.command_line.specs.Requests.{IsChoice, SaysListing, ListingFails};
 
 use crate::faults::{ListFault, NoRequest};
 use crate::matches::goal_said;
@@ -20,7 +20,7 @@ const COUNT: u64 = 10;
 
 // What the options of `boards` say. Which boards is judged first, then the goal's text.
 pub(crate) fn listing_in(matches: &ArgMatches<'_>) -> Result<Listing, NoRequest>
-    ensures listing { IfOk result (IsListing (rows_of (found_of matches.now))) }
+    ensures listing { IfOk result (SaysListing (rows_of (found_of matches.now))) }
     ensures refusal { IfErr result (ListingFails (rows_of (found_of matches.now))) }
 {
     let Some(shape) = shape_in(matches) else {
@@ -76,7 +76,7 @@ fn whole_in(matches: &ArgMatches<'_>, shape: Shape) -> Result<Choice, NoRequest>
 fn draws_in(matches: &ArgMatches<'_>) -> Option<Choice>
     requires { ¬ IsSet (rows_of (found_of matches.now)) (codes "all") }
     ensures choice { IfSome result (IsChoice (rows_of (found_of matches.now))) }
-    ensures small { (shape : Grid) → IfSome result (MayBeListed shape) }
+    ensures small { (shape : ShapeModel) → IfSome result (MayBeListed shape) }
 {
     let count = count_in(matches)?;
     let seed = number_in(matches, "seed")?;

@@ -2,7 +2,8 @@
 
 ghost use Rattle.std.specs.Prelude.{◌≡◌, ◌↔◌, IsTrue, IfOk, IfErr, IfSome, Some, codes, option_map};
 ghost use Rattle.clap.specs.Words.{first_of, found_of, rows_of, subcommand_rows_of};
-ghost use Rattle.command_line.specs.Requests.{AsksRun, RunFails, AreOptions, OptionsFail, ListingFails};
+ghost use Rattle.command_line.specs.Requests.{AsksRun, RunFails, AreOptions, OptionsFail};
+ghost use Rattle.command_line.specs.Requests.{ListingFails};
 ghost use Rattle.command_line.specs.Requests.{IsGoalSaid, IsGoalFault, AreCostsSaid, IsCostsFault};
 ghost use Rattle.command_line.specs.Requests.{AreGroupsSaid, IsGroupsFault};
 ghost use Rattle.command_line.specs.declared.faults.NoRequest.TheVariants.{Memory};

@@ -8,13 +8,13 @@ use Rattle.std.proofs.lemmas.Bool.{cases_lt, cases_Bool, cond-true, cond-false, 
 use Rattle.std.proofs.lemmas.List.{get_or-map, get_or_read, get_or_past, get_or-replicate, length-replicate, take_at, get_or_default, append-nil, append_assoc, get_or-set_other, get_or-set_same, get_or-take, length-set, length-take-le, map-append, take_all, take_more}
 use Rattle.std.proofs.lemmas.Option.{get_or_from_slice_get, slice_get_within, unwrap_or-slice_get, slice_get-get_or}
 use Rattle.std.proofs.lemmas.List.FromFn.{get_or-map-range_with_len, length-map-range_with_len}
-use Rattle.board.specs.Grids.{cell_count}
-use Rattle.board.specs.Positions.{Position}
-use Rattle.board.specs.CostRules.{CostRule}
+use Rattle.board.specs.Shapes.{cell_count}
+use Rattle.board.specs.Boards.{BoardModel}
+use Rattle.board.specs.Weights.{WeightsModel}
 use Rattle.pattern_index.specs.Laws.{factorial}
 use Rattle.pattern_index.specs.Ranks.{ways, list_at, IsListing}
-use Rattle.pattern_index.specs.Views.{Sight, IsView, view_of, view_at}
-use Rattle.pattern_index.specs.Selections.{Selection, folded_size_of, place_in, size_of, rank_in, IsSelection, abstraction_of, IsTile}
+use Rattle.pattern_index.specs.Views.{ViewModel, IsView, view_of, view_at}
+use Rattle.pattern_index.specs.Groups.{GroupModel, folded_size_of, place_in, size_of, rank_in, IsGroup, abstraction_of, IsTile}
 use Rattle.pattern_index.specs.Sparse.{digit_base, slot_count_of, slot_in, sparse_in, sparse_of, sparse_size_of, digits_in}
 use Rattle.pattern_index.proofs.PlaceLemmas.{place_listing, place_below as view_place_below}
 use Rattle.pattern_index.proofs.SightLemmas.{sight_below, listing}
@@ -29,7 +29,7 @@ use Rattle.pattern_graph.proofs.RowLemmas.{least_long, list_back, blank_out, vie
 use Rattle.pattern_graph.proofs.OrderLemmas.{order_below}
 use Rattle.pattern_graph.proofs.PlacementLemmas.{differ_or_not, seen_place, numbered}
 use Rattle.database_build.specs.Entries.{HasEntries, HaveOneForm, IsKeptBest, by_rank, slot_of_rank, values_in, widened, by_place, most_places, AreSmall, ArePlaces}
-use Rattle.database_build.specs.Tables.{Lookup, value_in, HoldsValues}
+use Rattle.database_build.specs.Tables.{TableModel, value_in, HoldsValues}
 use Rattle.database_build.specs.declared.entries.Entries.{Entries}
 use Rattle.database_build.specs.declared.entries.Entries.TheVariants.{Ranked, Bytes, Words}
 use Rattle.database_build.specs.declared.folding.TheConstants.{MOST_PLACES, PLACES_A_VALUE}
@@ -41,19 +41,19 @@ use Rattle.pattern_search.specs.declared.finding.Found.{Found}
 -- ---- values of views by rank
 
 -- there is one for each view
-pub length-by_rank : (g : Selection) (at_slot : ℕ → ℕ) → length (by_rank g at_slot) ≡ size_of g
+pub length-by_rank : (g : GroupModel) (at_slot : ℕ → ℕ) → length (by_rank g at_slot) ≡ size_of g
 unfolding by_rank
 length-by_rank g at_slot = length-map-range_with_len (λ rank. at_slot (slot_of_rank g rank)) 0 (size_of g)
 
 -- the slot of a view's rank is that of the view
-slot_back : (g : Selection) (v : Sight) → IsView g.grid g.tiles v → slot_of_rank g (rank_in g.grid v) ≡ slot_in g.grid v
+slot_back : (g : GroupModel) (v : ViewModel) → IsView g.grid g.tiles v → slot_of_rank g (rank_in g.grid v) ≡ slot_in g.grid v
 slot_back g v view =
     let long : suc (length g.tiles) ≡ suc (length v.cells) = ap suc (sym view.one_each) in
     ap (λ k. sparse_of (digit_base g.grid) (list_at (cell_count g.grid) k (rank_in g.grid v))) long
     ∙ ap (sparse_of (digit_base g.grid)) (list_back (cell_count g.grid) (v.blank ∷ v.cells) (listing g.grid g.tiles v view) (view_room g v view))
 
 -- a view has what stands at its slot
-pub by_rank_at : (g : Selection) (at_slot : ℕ → ℕ) (v : Sight) → IsView g.grid g.tiles v → slice_index (by_rank g at_slot) (rank_in g.grid v) ≡ at_slot (slot_in g.grid v)
+pub by_rank_at : (g : GroupModel) (at_slot : ℕ → ℕ) (v : ViewModel) → IsView g.grid g.tiles v → slice_index (by_rank g at_slot) (rank_in g.grid v) ≡ at_slot (slot_in g.grid v)
 unfolding by_rank
 by_rank_at g at_slot v view =
     get_or-map-range_with_len (λ rank. at_slot (slot_of_rank g rank)) 0 (size_of g) (rank_in g.grid v) (rank_in g.grid v) 0 (sight_below g.grid g.tiles v view) (omega arith)
@@ -62,7 +62,7 @@ by_rank_at g at_slot v view =
 -- ---- the values of a table
 
 -- there is one for each view
-pub values_size : (g : Selection) (entries : Entries) → HasEntries g entries → length (values_in g entries) ≡ size_of g
+pub values_size : (g : GroupModel) (entries : Entries) → HasEntries g entries → length (values_in g entries) ≡ size_of g
 values_size g (Ranked values) has = has
 values_size g (Bytes bytes) has = length-by_rank g (λ slot. widened (slice_index bytes.items slot))
 values_size g (Words words) has = length-by_rank g (slice_index words.items)
@@ -100,7 +100,7 @@ widened_back value small =
     small
 
 -- where no slot has more, no view has
-by_rank_high : (g : Selection) (at_slot : ℕ → ℕ) → ((slot : ℕ) → at_slot slot ≤ NO_VALUE) → (rank : ℕ) → slice_index (by_rank g at_slot) rank ≤ NO_VALUE
+by_rank_high : (g : GroupModel) (at_slot : ℕ → ℕ) → ((slot : ℕ) → at_slot slot ≤ NO_VALUE) → (rank : ℕ) → slice_index (by_rank g at_slot) rank ≤ NO_VALUE
 unfolding by_rank
 by_rank_high g at_slot high rank =
     ⊎_elim
@@ -114,32 +114,32 @@ by_rank_high g at_slot high rank =
     omega (arith, is))
     (cases_lt rank (size_of g))
 
-module _ (table : Lookup) (g : Selection) (entries : Entries) (is : record { selection = g; values = values_in g entries } ≡ table) (has : HasEntries g entries) where
+module _ (table : TableModel) (g : GroupModel) (entries : Entries) (is : record { selection = g; values = values_in g entries } ≡ table) (has : HasEntries g entries) where
   -- a table has one for each view
   pub table_size : length table.values ≡ size_of table.selection
-  table_size = subst (λ (t : Lookup). length t.values ≡ size_of t.selection) is (values_size g entries has)
+  table_size = subst (λ (t : TableModel). length t.values ≡ size_of t.selection) is (values_size g entries has)
 
   -- the values of bytes
   pub bytes_high : (bytes : Vec ℕ Global) → entries ≡ Bytes bytes → ((slot : ℕ) → slice_index bytes.items slot ≤ NO_VALUE) → (rank : ℕ) → slice_index table.values rank ≤ NO_VALUE
   bytes_high bytes kept high =
-      subst (λ (t : Lookup). (rank : ℕ) → slice_index t.values rank ≤ NO_VALUE) is
+      subst (λ (t : TableModel). (rank : ℕ) → slice_index t.values rank ≤ NO_VALUE) is
       (subst (λ (e : Entries). (rank : ℕ) → slice_index (values_in g e) rank ≤ NO_VALUE) (sym kept)
       (by_rank_high g (λ slot. widened (slice_index bytes.items slot)) (λ slot. widened_high (slice_index bytes.items slot) (high slot))))
 
   -- and those of words
   pub words_high : (words : Vec ℕ Global) → entries ≡ Words words → ((slot : ℕ) → slice_index words.items slot ≤ NO_VALUE) → (rank : ℕ) → slice_index table.values rank ≤ NO_VALUE
   words_high words kept high =
-      subst (λ (t : Lookup). (rank : ℕ) → slice_index t.values rank ≤ NO_VALUE) is
+      subst (λ (t : TableModel). (rank : ℕ) → slice_index t.values rank ≤ NO_VALUE) is
       (subst (λ (e : Entries). (rank : ℕ) → slice_index (values_in g e) rank ≤ NO_VALUE) (sym kept) (by_rank_high g (slice_index words.items) high))
 
   -- the slot of a view of the table is that of one of the group
-  pub slot_there : (v : Sight) (slot : ℕ) → slot_in table.selection.grid v ≡ slot → slot ≡ slot_in g.grid v
-  slot_there v slot at = sym at ∙ sym (ap (λ (t : Lookup). slot_in t.selection.grid v) is)
+  pub slot_there : (v : ViewModel) (slot : ℕ) → slot_in table.selection.grid v ≡ slot → slot ≡ slot_in g.grid v
+  slot_there v slot at = sym at ∙ sym (ap (λ (t : TableModel). slot_in t.selection.grid v) is)
 
-  module _ (v : Sight) (view : IsView table.selection.grid table.selection.tiles v) (slot : ℕ) (there : slot ≡ slot_in g.grid v) where
+  module _ (v : ViewModel) (view : IsView table.selection.grid table.selection.tiles v) (slot : ℕ) (there : slot ≡ slot_in g.grid v) where
     -- a view of the table is one of the group, and has a slot
     of_group : IsView g.grid g.tiles v
-    of_group = subst (λ (t : Lookup). IsView t.selection.grid t.selection.tiles v) (sym is) view
+    of_group = subst (λ (t : TableModel). IsView t.selection.grid t.selection.tiles v) (sym is) view
 
     within : slot < slot_count_of g
     within = let low = slot_below g v of_group in omega (arith, low, there)
@@ -166,7 +166,7 @@ module _ (table : Lookup) (g : Selection) (entries : Entries) (is : record { sel
         wide ∙ ap widened at ∙ ap (λ k. widened (slice_index bytes.items k)) there
         ∙ sym (by_rank_at g (λ k. widened (slice_index bytes.items k)) v of_group)
         ∙ ap (λ (e : Entries). slice_index (values_in g e) (rank_in g.grid v)) (sym kept)
-        ∙ ap (λ (t : Lookup). value_in t v) is
+        ∙ ap (λ (t : TableModel). value_in t v) is
 
     -- and so is what is read of words
     pub word_read : (words : Vec ℕ Global) (value : ℕ) → entries ≡ Words words → value ≡ get_or words.items slot value → value ≡ value_in table v
@@ -177,7 +177,7 @@ module _ (table : Lookup) (g : Selection) (entries : Entries) (is : record { sel
         at ∙ ap (slice_index words.items) there
         ∙ sym (by_rank_at g (slice_index words.items) v of_group)
         ∙ ap (λ (e : Entries). slice_index (values_in g e) (rank_in g.grid v)) (sym kept)
-        ∙ ap (λ (t : Lookup). value_in t v) is
+        ∙ ap (λ (t : TableModel). value_in t v) is
 
 -- ---- slots that are filled
 
@@ -197,7 +197,7 @@ ways_low n (suc r) =
     omega (arith, m, e)
 
 -- nodes are no more than slots
-pub nodes_low : (g : Selection) (r : Regions) → IsRegions g.grid (length g.tiles) r → node_count r ≤ slot_count_of g
+pub nodes_low : (g : GroupModel) (r : Regions) → IsRegions g.grid (length g.tiles) r → node_count r ≤ slot_count_of g
 nodes_low g r regions =
     let few = regions.regions.few in
     let same : ways (cell_count r.shape) (suc r.count) ≡ ways (cell_count g.grid) (suc (length g.tiles)) = (λ i. ways (cell_count (regions.shape i)) (suc (regions.tiles i))) in
@@ -206,7 +206,7 @@ nodes_low g r regions =
     omega (arith, few, same, low, wide)
 
 -- slots of the regions of a group are those of the group
-pub slots_size : {A : Type 0} (g : Selection) (r : Regions) → IsRegions g.grid (length g.tiles) r → (slots : List A) → length slots ≡ digit_base r.shape ^ suc r.count → length slots ≡ slot_count_of g
+pub slots_size : {A : Type 0} (g : GroupModel) (r : Regions) → IsRegions g.grid (length g.tiles) r → (slots : List A) → length slots ≡ digit_base r.shape ^ suc r.count → length slots ≡ slot_count_of g
 slots_size g r regions slots size = size ∙ (λ i. digit_base (regions.shape i) ^ suc (regions.tiles i))
 
 -- a vector whose elements were all written
@@ -215,7 +215,7 @@ all_written len new was items long is all = take_at new (drop (length new) items
 
 -- the slots of a group in such a vector are those that were filled
 pub filled_again :
-    {A : Type 0} (g : Selection) (r : Regions) (nodes was new items : List A) (filler : A) (len count : ℕ)
+    {A : Type 0} (g : GroupModel) (r : Regions) (nodes was new items : List A) (filler : A) (len count : ℕ)
     → IsRegions g.grid (length g.tiles) r
     → len ≡ length items
     → was ≡ items
@@ -229,7 +229,7 @@ filled_again {A} g r nodes was new items filler len count regions long is copies
 
 -- and its sparse places those that were written
 pub written_again :
-    {A : Type 0} (g : Selection) (least was new items : List A) (filler : A) (len count size : ℕ)
+    {A : Type 0} (g : GroupModel) (least was new items : List A) (filler : A) (len count size : ℕ)
     → len ≡ length items
     → was ≡ items
     → items ≡ replicate count filler
@@ -256,7 +256,7 @@ byte_back values narrow bytes i j low small narrowed is =
     ∙ get_or-map (λ value. min value 255) values j 0 0 low)
     ∙ widened_back (slice_index values j) (small j 0 low)
 
-module _ (g : Selection) (r : Regions) (regions : IsRegions g.grid (length g.tiles) r) (v : Sight) (view : IsView g.grid g.tiles v) where
+module _ (g : GroupModel) (r : Regions) (regions : IsRegions g.grid (length g.tiles) r) (v : ViewModel) (view : IsView g.grid g.tiles v) where
   -- the tiles of a view stand on different cells
   pub view_placed : IsPlaced r.shape r.count v.cells
   view_placed = record {
@@ -316,15 +316,15 @@ replicated n i a x is =
     sym (get_or_from_slice_get (replicate n a) i x a is) ∙ get_or-replicate n i a a (let all = length-replicate n a in omega (arith, all, low))
 
 -- where no view has a place that was not written, what was there is there
-pub others_kept : {A : Type 0} (g : Selection) (least places : List A) (filler : A) → AreAllWritten g least (replicate (sparse_size_of g) filler) places → (sparse : ℕ) (entry : A) → HasNoView g sparse → slice_get places sparse ≡ Some entry → entry ≡ filler
+pub others_kept : {A : Type 0} (g : GroupModel) (least places : List A) (filler : A) → AreAllWritten g least (replicate (sparse_size_of g) filler) places → (sparse : ℕ) (entry : A) → HasNoView g sparse → slice_get places sparse ≡ Some entry → entry ≡ filler
 others_kept g least places filler written sparse entry none is = replicated (sparse_size_of g) sparse filler entry (sym (written.others sparse none) ∙ is)
 
 -- sparse places that are not too many are few enough
-pub not_more : (g : Selection) → ¬ (most_places g < sparse_size_of g) → sparse_size_of g ≤ most_places g
+pub not_more : (g : GroupModel) → ¬ (most_places g < sparse_size_of g) → sparse_size_of g ≤ most_places g
 not_more g few = ⊎_elim (λ (more : most_places g < sparse_size_of g). absurd (few more)) (λ (fits : sparse_size_of g ≤ most_places g). fits) (cases_lt (most_places g) (sparse_size_of g))
 
 -- and no more than sparse places
-pub least_few : (g : Selection) (least : List ℕ) → length least ≡ placement_count (cell_count g.grid) (length g.tiles) → ¬ (most_places g < sparse_size_of g) → length least ≤ 2 ^ 27
+pub least_few : (g : GroupModel) (least : List ℕ) → length least ≡ placement_count (cell_count g.grid) (length g.tiles) → ¬ (most_places g < sparse_size_of g) → length least ≤ 2 ^ 27
 least_few g least are few =
     let fits = not_more g few in
     let all = least_long g least are in
@@ -332,7 +332,7 @@ least_few g least are few =
     let top = min-le_left MOST_PLACES (PLACES_A_VALUE * folded_size_of g) in
     omega (arith, fits, all, low, top)
 
-module _ (g : Selection) (v : Sight) (view : IsView g.grid g.tiles v) where
+module _ (g : GroupModel) (v : ViewModel) (view : IsView g.grid g.tiles v) where
   -- it is a placement of the tiles
   pub tiles_placed : IsPlaced g.grid (length g.tiles) v.cells
   tiles_placed = record { listing = place_listing g.grid g.tiles v view; one_each = view.one_each }
@@ -362,7 +362,7 @@ module _ (g : Selection) (v : Sight) (view : IsView g.grid g.tiles v) where
 
 -- where the value of a placement needs a word, so does the word at its sparse place
 pub words_needed :
-    (g : Selection) (least words : List ℕ)
+    (g : GroupModel) (least words : List ℕ)
     → length least ≡ placement_count (cell_count g.grid) (length g.tiles)
     → ((xs : List ℕ) → IsPlaced g.grid (length g.tiles) xs → slice_get words (sparse_of (cell_count g.grid) xs) ≡ slice_get least (placement_in (length g.tiles) xs))
     → ¬ AreSmall least
@@ -374,7 +374,7 @@ words_needed g least words long kept large small = large (λ k d low.
     subst (λ (value : ℕ). (value < 255) ⊎ (value ≡ NO_VALUE)) (get_or_from_slice_get words sparse (get_or least k d) d there) (small sparse d (slice_get_within words sparse (get_or least k d) there)))
 
 -- words by place need as much as those by sparse place, since no other needs any
-pub small_places : (g : Selection) (words : List ℕ) → IsSelection g → ArePlaces g NO_VALUE words → AreSmall (by_place g (slice_index words)) → AreSmall words
+pub small_places : (g : GroupModel) (words : List ℕ) → IsGroup g → ArePlaces g NO_VALUE words → AreSmall (by_place g (slice_index words)) → AreSmall words
 small_places g words group are small k d low =
     ⊎_elim
     (λ (different : AllPairs (λ x y. x ≢ y) digits).
@@ -392,14 +392,14 @@ small_places g words group are small k d low =
 -- ---- tables
 
 -- a table that has the values of nodes at the ranks of their views holds the values of views
-pub table_built : (g : Selection) (rule : CostRule) (goal : Position) (found : Found) (t : Lookup) (nodes values : List ℕ)
+pub table_built : (g : GroupModel) (rule : WeightsModel) (goal : BoardModel) (found : Found) (t : TableModel) (nodes values : List ℕ)
     → AreFound g rule goal found
     → nodes ≡ found.values.items
-    → ((v : Sight) → IsView g.grid g.tiles v → slice_index values (rank_in g.grid v) ≡ slice_index nodes (node_in found.regions v))
+    → ((v : ViewModel) → IsView g.grid g.tiles v → slice_index values (rank_in g.grid v) ≡ slice_index nodes (node_in found.regions v))
     → t ≡ record { selection = g; values = values }
     → HoldsValues t rule goal
 table_built g rule goal found t nodes values are all same is =
-    subst (λ (u : Lookup). HoldsValues u rule goal) (sym is)
+    subst (λ (u : TableModel). HoldsValues u rule goal) (sym is)
     (λ v view. subst (λ (n : ℕ). IsValue (abstraction_of g rule) (view_of g.tiles goal) v n) (sym (same v view ∙ ap (λ (ns : List ℕ). slice_index ns (node_in found.regions v)) all)) (are.values v view))
 
 -- ---- the rank of a slot
@@ -433,13 +433,13 @@ written n tiles cells total place rest differ within room are =
 
 -- once all are written, the cells are those of the view with the slot
 pub seen :
-    (g : Selection) (base slot rest place : ℕ) (tiles cells : List ℕ)
+    (g : GroupModel) (base slot rest place : ℕ) (tiles cells : List ℕ)
     → base ≡ digit_base g.grid
     → tiles ≡ g.tiles
     → length tiles ≤ place
     → slice_index cells 0 ≡ slot % base
     → map (slice_index cells) (take place tiles) ++ digits_in base (length tiles - place) rest ≡ digits_in base (length tiles) (slot / base)
-    → (v : Sight) → IsView g.grid g.tiles v → slot_in g.grid v ≡ slot → view_at g.tiles cells ≡ v
+    → (v : ViewModel) → IsView g.grid g.tiles v → slot_in g.grid v ≡ slot → view_at g.tiles cells ≡ v
 unfolding digits_in
 seen g base slot rest place tiles cells based listed end blank are v view at = λ i. record { blank = get_or (one i) 0 0; cells = drop 1 (one i) }
   where
@@ -465,8 +465,8 @@ seen g base slot rest place tiles cells based listed end blank are v view at = �
 
 -- what the loop keeps is kept by one tile more
 pub tile_written :
-    (g : Selection) (base slot rest place : ℕ) (tiles cells : List ℕ)
-    → IsSelection g
+    (g : GroupModel) (base slot rest place : ℕ) (tiles cells : List ℕ)
+    → IsGroup g
     → tiles ≡ g.tiles
     → place < length tiles
     → length cells ≡ 25

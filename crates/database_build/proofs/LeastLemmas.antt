@@ -10,13 +10,13 @@ use Rattle.std.proofs.lemmas.Nat.{mul-add-lt}
 use Rattle.std.proofs.lemmas.Slice.{drop-put_mid}
 use Rattle.std.proofs.lemmas.List.Elements.{All-cons}
 use borrow.Rule.Slice.PartMut.{put_mid}
-use Rattle.board.specs.CostRules.{CostRule}
-use Rattle.board.specs.Grids.{cell_count, Grid}
-use Rattle.board.specs.Positions.{Position}
+use Rattle.board.specs.Weights.{WeightsModel}
+use Rattle.board.specs.Shapes.{cell_count, ShapeModel}
+use Rattle.board.specs.Boards.{BoardModel}
 use Rattle.pattern_index.specs.Laws.{factorial}
 use Rattle.pattern_index.specs.Ranks.{ways, IsListing, list_at}
-use Rattle.pattern_index.specs.Selections.{Selection, size_of, folded_size_of, rank_in, place_in, abstraction_of, IsGroup, IsSelection}
-use Rattle.pattern_index.specs.Views.{Sight, IsView, view_of, view_at}
+use Rattle.pattern_index.specs.Groups.{GroupModel, size_of, folded_size_of, rank_in, place_in, abstraction_of, AreGroupTiles, IsGroup}
+use Rattle.pattern_index.specs.Views.{ViewModel, IsView, view_of, view_at}
 use Rattle.pattern_index.proofs.PlaceLemmas.{place_listing}
 use Rattle.pattern_index.proofs.RankLemmas.{below_in, differ_in, listing_from, pairs_from_differ}
 use Rattle.pattern_index.proofs.SightLemmas.{sight_below, listing as view_listing}
@@ -25,7 +25,7 @@ use Rattle.pattern_graph.specs.Graphs.{node_count, node_in}
 use Rattle.pattern_graph.specs.Sets.{AreMarksOf, choose, set_place, set_at, AreSame}
 use Rattle.pattern_graph.specs.Orders.{order_of}
 use Rattle.pattern_graph.specs.Placements.{placement_in, placement_count, node_value, IsSetList}
-use Rattle.database_build.specs.Folds.{IsLeastNode, Fold, IsFoldOf, IsTrueFold, AreLeastNodes, IsFoldedValue, folded_in, AreAdded, AreLeastOf}
+use Rattle.database_build.specs.Folds.{IsLeastNode, FoldedModel, IsFoldOf, IsTrueFold, AreLeastNodes, IsFoldedValue, folded_in, AreLeastAdded, AreLeastOf}
 use Rattle.pattern_graph.specs.Regions.{IsRegions, IsPlaced, IsFree, region_in}
 use Rattle.pattern_graph.specs.declared.regions.Regions.{Regions}
 use Rattle.pattern_graph.proofs.RowLemmas.{some_free, nodes_fit, blank_within, list_back, other_from, listing_wide}
@@ -35,7 +35,7 @@ use Rattle.pattern_graph.proofs.SlotLemmas.{order_within}
 use Rattle.pattern_graph.proofs.PlacementLemmas.{IsOrdered, set_list}
 use Rattle.database_build.specs.Entries.{HasLeast, least_in}
 use Rattle.pattern_search.specs.Searches.{AreFound, IsValue}
-use Rattle.database_build.specs.Tables.{Lookup, value_in}
+use Rattle.database_build.specs.Tables.{TableModel, value_in}
 use Rattle.database_build.specs.declared.entries.Entries.{Entries}
 use Rattle.pattern_search.specs.declared.finding.Found.{Found}
 use Rattle.database_build.proofs.FoldLemmas.{least_size}
@@ -241,7 +241,7 @@ pub record AreLeastTo (r : Regions) (nodes : List ℕ) (set : ℕ) (least : List
   pub rest : (i : ℕ) → set * factorial r.count ≤ i → i < length least → slice_index least i ≡ 65535
 
 -- no set is done
-pub least_to_none : (g : Selection) (r : Regions) (nodes least : List ℕ) (size : ℕ) → IsRegions g.grid (length g.tiles) r → size ≡ folded_size_of g → least ≡ replicate size 65535 → AreLeastTo r nodes 0 least
+pub least_to_none : (g : GroupModel) (r : Regions) (nodes least : List ℕ) (size : ℕ) → IsRegions g.grid (length g.tiles) r → size ≡ folded_size_of g → least ≡ replicate size 65535 → AreLeastTo r nodes 0 least
 least_to_none g r nodes least size regions sized is =
     let long : length least ≡ size = ap length is ∙ length-replicate size 65535 in
     let all : choose (cell_count r.shape) r.count * factorial r.count ≡ folded_size_of g = choose_ways (cell_count r.shape) r.count ∙ (λ i. ways (cell_count (regions.shape i)) (regions.tiles i)) in
@@ -370,12 +370,12 @@ module _ (r : Regions) (nodes least : List ℕ) (set orders : ℕ) (orders_are :
 -- ---- folded tables
 
 -- the whole table, with the values of nodes
-pub whole : Selection → Regions → List ℕ → Lookup
+pub whole : GroupModel → Regions → List ℕ → TableModel
 whole g r nodes = record { selection = g; values = map (λ rank. node_value r nodes (list_at (cell_count g.grid) (suc (length g.tiles)) rank)) (range_with_len 0 (size_of g)) }
 
-module _ (g : Selection) (r : Regions) (nodes : List ℕ) (regions : IsRegions g.grid (length g.tiles) r) where
+module _ (g : GroupModel) (r : Regions) (nodes : List ℕ) (regions : IsRegions g.grid (length g.tiles) r) where
   -- a view has its node's value
-  whole_value : (v : Sight) → IsView g.grid g.tiles v → value_in (whole g r nodes) v ≡ slice_index nodes (node_in r v)
+  whole_value : (v : ViewModel) → IsView g.grid g.tiles v → value_in (whole g r nodes) v ≡ slice_index nodes (node_in r v)
   unfolding whole
   whole_value v view =
       let low : rank_in g.grid v < size_of g = sight_below g.grid g.tiles v view in
@@ -387,7 +387,7 @@ module _ (g : Selection) (r : Regions) (nodes : List ℕ) (regions : IsRegions g
       ∙ ap (node_value r nodes) back
 
   -- with the blank on a free cell it is a view too
-  with_blank : (v : Sight) (blank : ℕ) → IsView g.grid g.tiles v → IsFree r.shape v.cells blank → IsView g.grid g.tiles (record { blank = blank; cells = v.cells })
+  with_blank : (v : ViewModel) (blank : ℕ) → IsView g.grid g.tiles v → IsFree r.shape v.cells blank → IsView g.grid g.tiles (record { blank = blank; cells = v.cells })
   with_blank v blank view free =
       let is = place_listing g.grid g.tiles v view in
       let low : blank < cell_count g.grid = subst (λ n. blank < n) (ap cell_count regions.shape) free.inside in
@@ -403,7 +403,7 @@ module _ (g : Selection) (r : Regions) (nodes : List ℕ) (regions : IsRegions g
       (least kept : List ℕ)
       → AreLeastNodes r nodes least
       → length kept ≡ folded_size_of g
-      → ((v : Sight) → IsView g.grid g.tiles v → slice_index kept (place_in g.grid v) ≡ slice_index least (placement_in (length g.tiles) v.cells))
+      → ((v : ViewModel) → IsView g.grid g.tiles v → slice_index kept (place_in g.grid v) ≡ slice_index least (placement_in (length g.tiles) v.cells))
       → IsFoldOf (whole g r nodes) (record { selection = g; least = kept })
   unfolding whole
   fold_of_nodes least kept are size kept_is = record {
@@ -412,7 +412,7 @@ module _ (g : Selection) (r : Regions) (nodes : List ℕ) (regions : IsRegions g
     least = λ v view.
         let at : slice_index kept (place_in g.grid v) ≡ slice_index least (placement_in r.count v.cells) = kept_is v view ∙ ap (λ k. slice_index least (placement_in k v.cells)) (sym regions.tiles) in
         let here : IsLeastNode r nodes v.cells (slice_index kept (place_in g.grid v)) = subst (λ n. IsLeastNode r nodes v.cells n) (sym at) (are.values v.cells (view_placed g r regions v view)) in
-        let w : Sight = record { blank = here.reached.0; cells = v.cells } in
+        let w : ViewModel = record { blank = here.reached.0; cells = v.cells } in
         let view_w : IsView g.grid g.tiles w = with_blank v here.reached.0 view here.reached.1 in
         record {
           reached = (w, view_w, refl, whole_value w view_w ∙ here.reached.2);
@@ -426,19 +426,19 @@ module _ (g : Selection) (r : Regions) (nodes : List ℕ) (regions : IsRegions g
 
 -- the folded table of what a search has found
 pub true_fold :
-    (g : Selection) (rule : CostRule) (goal : Position) (found : Found) (fold : Fold) (nodes least was : List ℕ) (entries : Entries)
+    (g : GroupModel) (rule : WeightsModel) (goal : BoardModel) (found : Found) (fold : FoldedModel) (nodes least was : List ℕ) (entries : Entries)
     → AreFound g rule goal found
     → nodes ≡ found.values.items
     → AreLeastNodes found.regions nodes least
     → was ≡ least
     → HasLeast g entries
-    → ((v : Sight) → IsView g.grid g.tiles v → slice_index (least_in g entries) (place_in g.grid v) ≡ slice_index was (placement_in (length g.tiles) v.cells))
+    → ((v : ViewModel) → IsView g.grid g.tiles v → slice_index (least_in g entries) (place_in g.grid v) ≡ slice_index was (placement_in (length g.tiles) v.cells))
     → fold ≡ record { selection = g; least = least_in g entries }
     → IsTrueFold rule goal fold
 unfolding whole
 true_fold g rule goal found fold nodes least was entries are all least_are read has kept is = (
   whole g found.regions nodes,
-  subst (λ (f : Fold). IsFoldOf (whole g found.regions nodes) f) (sym is)
+  subst (λ (f : FoldedModel). IsFoldOf (whole g found.regions nodes) f) (sym is)
       (fold_of_nodes g found.regions nodes are.regions least (least_in g entries) least_are (least_size g entries has) (λ v view. kept v view ∙ ap (λ (xs : List ℕ). slice_index xs (placement_in (length g.tiles) v.cells)) read)),
   λ v view. subst (λ n. IsValue (abstraction_of g rule) (view_of g.tiles goal) v n) (sym (whole_value g found.regions nodes are.regions v view ∙ ap (λ (ns : List ℕ). slice_index ns (node_in found.regions v)) all)) (are.values v view),
 )
@@ -483,7 +483,7 @@ cell_put tiles cells numbers place same within different inside put =
     }
 
 -- the view with the blank on a cell, where the cells of the tiles are written
-pub blank_put : (grid : Grid) (numbers tiles cells : List ℕ) (blank : ℕ) → IsGroup grid tiles → 0 < length numbers → map (slice_index numbers) tiles ≡ cells → view_at tiles (set numbers 0 blank) ≡ record { blank = blank; cells = cells }
+pub blank_put : (grid : ShapeModel) (numbers tiles cells : List ℕ) (blank : ℕ) → AreGroupTiles grid tiles → 0 < length numbers → map (slice_index numbers) tiles ≡ cells → view_at tiles (set numbers 0 blank) ≡ record { blank = blank; cells = cells }
 blank_put grid numbers tiles cells blank group some written =
     let out : ¬ Contains tiles 0 = λ has. let above = (group.tiles has.0 0 has.1).0 in let is = has.2 in absurd (omega arith) in
     let here = get_or-set_same numbers 0 blank 0 some in
@@ -492,8 +492,8 @@ blank_put grid numbers tiles cells blank group some written =
 
 -- the blank on a free cell, where the cells of the tiles are written, gives a view
 pub blank_view :
-    (grid : Grid) (numbers tiles cells : List ℕ) (marks : List Bool) (blank end : ℕ)
-    → IsGroup grid tiles
+    (grid : ShapeModel) (numbers tiles cells : List ℕ) (marks : List Bool) (blank end : ℕ)
+    → AreGroupTiles grid tiles
     → length numbers ≡ 25
     → map (slice_index numbers) tiles ≡ cells
     → IsPlaced grid (length tiles) cells
@@ -512,22 +512,22 @@ blank_view grid numbers tiles cells marks blank end group long written is_placed
     subst (IsView grid tiles) (sym (blank_put grid numbers tiles cells blank group (omega (arith, long)) written)) view
 
 -- the cells of the tiles stay written
-pub blank_kept : (grid : Grid) (numbers tiles cells : List ℕ) (blank : ℕ) → IsGroup grid tiles → length numbers ≡ 25 → map (slice_index numbers) tiles ≡ cells → map (slice_index (set numbers 0 blank)) tiles ≡ cells
-blank_kept grid numbers tiles cells blank group long written = ap (λ (v : Sight). v.cells) (blank_put grid numbers tiles cells blank group (omega (arith, long)) written)
+pub blank_kept : (grid : ShapeModel) (numbers tiles cells : List ℕ) (blank : ℕ) → AreGroupTiles grid tiles → length numbers ≡ 25 → map (slice_index numbers) tiles ≡ cells → map (slice_index (set numbers 0 blank)) tiles ≡ cells
+blank_kept grid numbers tiles cells blank group long written = ap (λ (v : ViewModel). v.cells) (blank_put grid numbers tiles cells blank group (omega (arith, long)) written)
 
 -- ---- the least value over the blank's places
 
 -- a view with the tiles on these cells has this value
-abbrev pub HasView : Lookup → List ℕ → ℕ → Type 0
-HasView table cells n = (w : Sight) × IsView table.selection.grid table.selection.tiles w × (w.cells ≡ cells) × (value_in table w ≡ n)
+abbrev pub HasView : TableModel → List ℕ → ℕ → Type 0
+HasView table cells n = (w : ViewModel) × IsView table.selection.grid table.selection.tiles w × (w.cells ≡ cells) × (value_in table w ≡ n)
 
 -- the least value of those with the blank on the cells before this one
-pub record IsLeastBefore (table : Lookup) (cells : List ℕ) (blank least : ℕ) : Type 0 where
+pub record IsLeastBefore (table : TableModel) (cells : List ℕ) (blank least : ℕ) : Type 0 where
   pub reached : (least ≡ 65535) ⊎ HasView table cells least
-  pub none_below : (w : Sight) → IsView table.selection.grid table.selection.tiles w → w.cells ≡ cells → w.blank < blank → least ≤ value_in table w
+  pub none_below : (w : ViewModel) → IsView table.selection.grid table.selection.tiles w → w.cells ≡ cells → w.blank < blank → least ≤ value_in table w
 
 -- a tile stands there
-pub before_pass : (table : Lookup) (cells : List ℕ) (blank least : ℕ) → Contains cells blank → IsLeastBefore table cells blank least → IsLeastBefore table cells (blank + 1) least
+pub before_pass : (table : TableModel) (cells : List ℕ) (blank least : ℕ) → Contains cells blank → IsLeastBefore table cells blank least → IsLeastBefore table cells (blank + 1) least
 before_pass table cells blank least has so_far = record {
   reached = so_far.reached;
   none_below = λ w view is lt.
@@ -542,7 +542,7 @@ before_pass table cells blank least has so_far = record {
 
 -- the blank can stand there
 pub before_more :
-    (table : Lookup) (cells : List ℕ) (blank least value less : ℕ) (u : Sight)
+    (table : TableModel) (cells : List ℕ) (blank least value less : ℕ) (u : ViewModel)
     → IsView table.selection.grid table.selection.tiles u
     → u ≡ record { blank = blank; cells = cells }
     → value ≡ value_in table u
@@ -554,7 +554,7 @@ before_more table cells blank least value less u view_u u_is is min_is so_far =
     (λ (under : value < least).
     let e : less ≡ value = min_is ∙ min-eq_right (omega (arith, under)) in
     record {
-      reached = inr (u, view_u, ap (λ (w : Sight). w.cells) u_is, sym is ∙ sym e);
+      reached = inr (u, view_u, ap (λ (w : ViewModel). w.cells) u_is, sym is ∙ sym e);
       none_below = below less (omega (arith, under, e)) (omega (arith, e));
     })
     (λ (over : least ≤ value).
@@ -565,23 +565,23 @@ before_more table cells blank least value less u view_u u_is is min_is so_far =
     })
     (cases_lt value least)
   where
-    below : (n : ℕ) → n ≤ least → n ≤ value → (w : Sight) → IsView table.selection.grid table.selection.tiles w → w.cells ≡ cells → w.blank < blank + 1 → n ≤ value_in table w
+    below : (n : ℕ) → n ≤ least → n ≤ value → (w : ViewModel) → IsView table.selection.grid table.selection.tiles w → w.cells ≡ cells → w.blank < blank + 1 → n ≤ value_in table w
     below n low here w view w_is lt =
         ⊎_elim
         (λ (before : w.blank < blank). let rest = so_far.none_below w view w_is before in omega (arith, rest, low))
         (λ (at : blank ≤ w.blank).
         let e : blank ≡ w.blank = omega (arith, at, lt) in
         let same : u ≡ w = u_is ∙ (λ i. record { blank = e i; cells = sym w_is i }) in
-        subst (λ (x : Sight). n ≤ value_in table x) same (omega (arith, is, here)))
+        subst (λ (x : ViewModel). n ≤ value_in table x) same (omega (arith, is, here)))
         (cases_lt w.blank blank)
 
 -- all cells were looked at
 pub before_all :
-    (table : Lookup) (cells : List ℕ) (blank least : ℕ)
+    (table : TableModel) (cells : List ℕ) (blank least : ℕ)
     → cell_count table.selection.grid ≤ blank
     → ((rank : ℕ) → slice_index table.values rank ≤ 65535)
     → IsLeastBefore table cells blank least
-    → (v : Sight) → IsView table.selection.grid table.selection.tiles v → v.cells ≡ cells → IsFoldedValue table v least
+    → (v : ViewModel) → IsView table.selection.grid table.selection.tiles v → v.cells ≡ cells → IsFoldedValue table v least
 before_all table cells blank least end high so_far v view is = record {
   reached = ⊎_elim
       (λ (e : least ≡ 65535).
@@ -592,20 +592,20 @@ before_all table cells blank least end high so_far v view is = record {
   none_below = λ w view_w same. below w view_w (same ∙ is);
 }
   where
-    below : (w : Sight) → IsView table.selection.grid table.selection.tiles w → w.cells ≡ cells → least ≤ value_in table w
+    below : (w : ViewModel) → IsView table.selection.grid table.selection.tiles w → w.cells ≡ cells → least ≤ value_in table w
     below w view_w w_is = so_far.none_below w view_w w_is (let low = view_w.in_range 0 0 (omega arith) in omega (arith, low, end))
 
 -- ---- a set and an order of it
 
 -- the cells of a set can be marked
-pub set_listed : (g : Selection) (cells : List ℕ) → IsSelection g → IsSetList g.grid (length g.tiles) cells → IsListing 25 cells
+pub set_listed : (g : GroupModel) (cells : List ℕ) → IsGroup g → IsSetList g.grid (length g.tiles) cells → IsListing 25 cells
 set_listed g cells selection is = listing_wide (cell_count g.grid) 25 cells (cells_high g.grid selection.sides) (set_list g.grid (length g.tiles) cells is).listing
 
-pub set_few : (g : Selection) (cells : List ℕ) → IsSelection g → IsSetList g.grid (length g.tiles) cells → length cells ≤ 9
+pub set_few : (g : GroupModel) (cells : List ℕ) → IsGroup g → IsSetList g.grid (length g.tiles) cells → length cells ≤ 9
 set_few g cells selection is = let few = (groups_small g selection).0 in let long = (set_list g.grid (length g.tiles) cells is).one_each in omega (arith, few, long)
 
 -- they have as many orders as there are of the tiles
-pub ended_is : (g : Selection) (cells : List ℕ) (end : ℕ) → IsSetList g.grid (length g.tiles) cells → end ≡ factorial (length cells) → end ≡ factorial (length g.tiles)
+pub ended_is : (g : GroupModel) (cells : List ℕ) (end : ℕ) → IsSetList g.grid (length g.tiles) cells → end ≡ factorial (length cells) → end ≡ factorial (length g.tiles)
 ended_is g cells end is ended = ended ∙ ap factorial (set_list g.grid (length g.tiles) cells is).one_each
 
 -- where they are marked the tiles on them are
@@ -613,7 +613,7 @@ pub same_marks : (xs cells : List ℕ) (marks : List Bool) → AreSame xs cells 
 same_marks xs cells marks same are cell = (λ marked. (same cell).1 ((are cell).0 marked), λ there. (are cell).1 ((same cell).0 there))
 
 -- the set that is written over the front of an array
-module _ (g : Selection) (n count set end : ℕ) (written rest : List ℕ) (selection : IsSelection g) (counted : n ≡ cell_count g.grid) (tiles : count ≡ length g.tiles) (low : set < end) (ended : end ≡ choose n count) (is : written ≡ set_at n (length (take {A = ℕ} count (replicate 9 0))) set) where
+module _ (g : GroupModel) (n count set end : ℕ) (written rest : List ℕ) (selection : IsGroup g) (counted : n ≡ cell_count g.grid) (tiles : count ≡ length g.tiles) (low : set < end) (ended : end ≡ choose n count) (is : written ≡ set_at n (length (take {A = ℕ} count (replicate 9 0))) set) where
   set_low : set < choose (cell_count g.grid) (length g.tiles)
   set_low = subst (λ k. set < k) (ended ∙ (λ i. choose (counted i) (tiles i))) low
 
@@ -627,16 +627,16 @@ module _ (g : Selection) (n count set end : ℕ) (written rest : List ℕ) (sele
 -- ---- the placements on one set
 
 -- behind the old values stand those of the orders before one
-pub record AreAddedTo (table : Lookup) (cells old : List ℕ) (order : ℕ) (new : List ℕ) : Type 0 where
+pub record AreAddedTo (table : TableModel) (cells old : List ℕ) (order : ℕ) (new : List ℕ) : Type 0 where
   pub size : length new ≡ length old + order
   pub kept : (i : ℕ) → i < length old → slice_index new i ≡ slice_index old i
-  pub added : (v : Sight) → IsView table.selection.grid table.selection.tiles v → AreSame v.cells cells → order_of v.cells < order → IsFoldedValue table v (slice_index new (length old + order_of v.cells))
+  pub added : (v : ViewModel) → IsView table.selection.grid table.selection.tiles v → AreSame v.cells cells → order_of v.cells < order → IsFoldedValue table v (slice_index new (length old + order_of v.cells))
 
 -- that of one placement more is put at the end
 pub added_more :
-    (table : Lookup) (cells old new placed : List ℕ) (order value : ℕ)
+    (table : TableModel) (cells old new placed : List ℕ) (order value : ℕ)
     → IsOrdered table.selection.grid (length table.selection.tiles) cells order placed
-    → ((v : Sight) → IsView table.selection.grid table.selection.tiles v → v.cells ≡ placed → IsFoldedValue table v value)
+    → ((v : ViewModel) → IsView table.selection.grid table.selection.tiles v → v.cells ≡ placed → IsFoldedValue table v value)
     → AreAddedTo table cells old order new
     → AreAddedTo table cells old (order + 1) (new ++ value ∷ [])
 added_more table cells old new placed order value is_ordered folded so_far = record {
@@ -658,7 +658,7 @@ added_more table cells old new placed order value is_ordered folded so_far = rec
 }
 
 -- all orders were looked at
-pub added_all : (table : Lookup) (cells old new : List ℕ) (order : ℕ) → order ≡ factorial (length table.selection.tiles) → AreAddedTo table cells old order new → AreAdded table cells old new
+pub added_all : (table : TableModel) (cells old new : List ℕ) (order : ℕ) → order ≡ factorial (length table.selection.tiles) → AreAddedTo table cells old order new → AreLeastAdded table cells old new
 added_all table cells old new order end so_far = record {
   size = so_far.size ∙ ap (λ k. length old + k) end;
   kept = so_far.kept;
@@ -668,15 +668,15 @@ added_all table cells old new order end so_far = record {
 -- ---- the sets
 
 -- the least values of the placements on the sets before one
-pub record AreLeastBefore (table : Lookup) (set : ℕ) (least : List ℕ) : Type 0 where
+pub record AreLeastBefore (table : TableModel) (set : ℕ) (least : List ℕ) : Type 0 where
   pub size : length least ≡ set * factorial (length table.selection.tiles)
-  pub values : (v : Sight) → IsView table.selection.grid table.selection.tiles v → set_place v.cells < set → IsFoldedValue table v (slice_index least (placement_in (length table.selection.tiles) v.cells))
+  pub values : (v : ViewModel) → IsView table.selection.grid table.selection.tiles v → set_place v.cells < set → IsFoldedValue table v (slice_index least (placement_in (length table.selection.tiles) v.cells))
 
 -- those on one set more are put at the end
 pub sets_more :
-    (table : Lookup) (set : ℕ) (cells old new : List ℕ)
+    (table : TableModel) (set : ℕ) (cells old new : List ℕ)
     → cells ≡ set_at (cell_count table.selection.grid) (length table.selection.tiles) set
-    → AreAdded table cells old new
+    → AreLeastAdded table cells old new
     → AreLeastBefore table set old
     → AreLeastBefore table (set + 1) new
 sets_more table set cells old new cells_are added so_far = record {
@@ -698,11 +698,11 @@ sets_more table set cells old new cells_are added so_far = record {
       (cases_lt (set_place v.cells) set);
 }
   where
-    so_far_at : (v : Sight) → set_place v.cells ≡ set → length old + order_of v.cells ≡ placement_in (length table.selection.tiles) v.cells
+    so_far_at : (v : ViewModel) → set_place v.cells ≡ set → length old + order_of v.cells ≡ placement_in (length table.selection.tiles) v.cells
     so_far_at v here = λ i. (so_far.size ∙ ap (λ k. k * factorial (length table.selection.tiles)) (sym here)) i + order_of v.cells
 
 -- all sets were looked at
-pub sets_all : (table : Lookup) (set : ℕ) (least : List ℕ) → set ≡ choose (cell_count table.selection.grid) (length table.selection.tiles) → AreLeastBefore table set least → AreLeastOf table least
+pub sets_all : (table : TableModel) (set : ℕ) (least : List ℕ) → set ≡ choose (cell_count table.selection.grid) (length table.selection.tiles) → AreLeastBefore table set least → AreLeastOf table least
 sets_all table set least end so_far = record {
   size = so_far.size ∙ ap (λ k. k * factorial (length table.selection.tiles)) end;
   values = λ v view.
@@ -713,12 +713,12 @@ sets_all table set least end so_far = record {
 -- ---- what is kept of them
 
 -- what a folded table keeps of a placement
-abbrev pub AreKept : Selection → List ℕ → Entries → Type 0
-AreKept g least entries = (v : Sight) → IsView g.grid g.tiles v → slice_index (least_in g entries) (place_in g.grid v) ≡ slice_index least (placement_in (length g.tiles) v.cells)
+abbrev pub AreKept : GroupModel → List ℕ → Entries → Type 0
+AreKept g least entries = (v : ViewModel) → IsView g.grid g.tiles v → slice_index (least_in g entries) (place_in g.grid v) ≡ slice_index least (placement_in (length g.tiles) v.cells)
 
 -- the folded table with the least value of each placement is that of the table
 pub kept_fold :
-    (table : Lookup) (g : Selection) (least : List ℕ) (entries : Entries) (fold : Fold)
+    (table : TableModel) (g : GroupModel) (least : List ℕ) (entries : Entries) (fold : FoldedModel)
     → g ≡ table.selection
     → AreLeastOf table least
     → HasLeast g entries
@@ -726,9 +726,9 @@ pub kept_fold :
     → fold ≡ record { selection = g; least = least_in g entries }
     → IsFoldOf table fold
 kept_fold table g least entries fold same are has kept is =
-    let fold_is : fold ≡ record { selection = table.selection; least = least_in table.selection entries } = is ∙ ap (λ (h : Selection). record { selection = h; least = least_in h entries }) same in
+    let fold_is : fold ≡ record { selection = table.selection; least = least_in table.selection entries } = is ∙ ap (λ (h : GroupModel). record { selection = h; least = least_in h entries }) same in
     record {
-      selection = ap (λ (f : Fold). f.selection) fold_is;
-      size = ap (λ (f : Fold). length f.least) fold_is ∙ least_size table.selection entries (subst (λ (h : Selection). HasLeast h entries) same has);
-      least = λ v view. subst (IsFoldedValue table v) (sym (ap (λ (f : Fold). folded_in f v) fold_is ∙ subst (λ (h : Selection). AreKept h least entries) same kept v view)) (are.values v view);
+      selection = ap (λ (f : FoldedModel). f.selection) fold_is;
+      size = ap (λ (f : FoldedModel). length f.least) fold_is ∙ least_size table.selection entries (subst (λ (h : GroupModel). HasLeast h entries) same has);
+      least = λ v view. subst (IsFoldedValue table v) (sym (ap (λ (f : FoldedModel). folded_in f v) fold_is ∙ subst (λ (h : GroupModel). AreKept h least entries) same kept v view)) (are.values v view);
     }

@@ -1,41 +1,41 @@
 -- Folded tables: for each way in which a group's tiles can stand, the least value over the blank's places.
 use Rattle.std.specs.Prelude.{ℕ, ◌≡◌, ◌≤◌, List, length, slice_index, ◌+◌, ◌<◌, ◌∷◌}
-use Rattle.board.specs.Positions.{Position}
-use Rattle.board.specs.CostRules.{CostRule}
-use Rattle.board.specs.Grids.{cell_count}
-use Rattle.pattern_index.specs.Views.{Sight, IsView}
-use Rattle.pattern_index.specs.Selections.{Selection, place_in, folded_size_of}
+use Rattle.board.specs.Boards.{BoardModel}
+use Rattle.board.specs.Weights.{WeightsModel}
+use Rattle.board.specs.Shapes.{cell_count}
+use Rattle.pattern_index.specs.Views.{ViewModel, IsView}
+use Rattle.pattern_index.specs.Groups.{GroupModel, place_in, folded_size_of}
 use Rattle.pattern_index.specs.Laws.{factorial}
 use Rattle.pattern_graph.specs.Regions.{IsPlaced, IsFree}
 use Rattle.pattern_graph.specs.declared.regions.Regions.{Regions}
 use Rattle.pattern_graph.specs.Placements.{node_value, placement_in, placement_count}
 use Rattle.pattern_graph.specs.Orders.{order_of}
 use Rattle.pattern_graph.specs.Sets.{AreSame}
-use Rattle.database_build.specs.Tables.{Lookup, HoldsValues, value_in}
+use Rattle.database_build.specs.Tables.{TableModel, HoldsValues, value_in}
 
 -- A group, and an entry for each way in which its tiles can stand, by place.
-pub record Fold : Type 0 where
-  pub selection : Selection
+pub record FoldedModel : Type 0 where
+  pub selection : GroupModel
   pub least : List ℕ
 
 -- the entry of the cells on which a view shows the tiles
-abbrev pub folded_in : Fold → Sight → ℕ
+abbrev pub folded_in : FoldedModel → ViewModel → ℕ
 folded_in fold v = slice_index fold.least (place_in fold.selection.grid v)
 
 -- n is the least entry of the views that show the tiles on the same cells as v, wherever the blank is
-pub record IsFoldedValue (table : Lookup) (v : Sight) (n : ℕ) : Type 0 where
-  pub reached : (w : Sight) × IsView table.selection.grid table.selection.tiles w × (w.cells ≡ v.cells) × (value_in table w ≡ n)
-  pub none_below : (w : Sight) → IsView table.selection.grid table.selection.tiles w → w.cells ≡ v.cells → n ≤ value_in table w
+pub record IsFoldedValue (table : TableModel) (v : ViewModel) (n : ℕ) : Type 0 where
+  pub reached : (w : ViewModel) × IsView table.selection.grid table.selection.tiles w × (w.cells ≡ v.cells) × (value_in table w ≡ n)
+  pub none_below : (w : ViewModel) → IsView table.selection.grid table.selection.tiles w → w.cells ≡ v.cells → n ≤ value_in table w
 
 -- the entries are the folded values of a table
-pub record IsFoldOf (table : Lookup) (fold : Fold) : Type 0 where
+pub record IsFoldOf (table : TableModel) (fold : FoldedModel) : Type 0 where
   pub selection : fold.selection ≡ table.selection
   pub size : length fold.least ≡ folded_size_of table.selection
-  pub least : (v : Sight) → IsView table.selection.grid table.selection.tiles v → IsFoldedValue table v (folded_in fold v)
+  pub least : (v : ViewModel) → IsView table.selection.grid table.selection.tiles v → IsFoldedValue table v (folded_in fold v)
 
 -- folded from a table with the value of each view for the goal by these costs
-abbrev pub IsTrueFold : CostRule → Position → Fold → Type 0
-IsTrueFold rule goal fold = (table : Lookup) × IsFoldOf table fold × HoldsValues table rule goal
+abbrev pub IsTrueFold : WeightsModel → BoardModel → FoldedModel → Type 0
+IsTrueFold rule goal fold = (table : TableModel) × IsFoldOf table fold × HoldsValues table rule goal
 
 -- ---- the least value of each placement of the tiles
 
@@ -50,12 +50,12 @@ pub record AreLeastNodes (r : Regions) (nodes least : List ℕ) : Type 0 where
   pub values : (cells : List ℕ) → IsPlaced r.shape r.count cells → IsLeastNode r nodes cells (slice_index least (placement_in r.count cells))
 
 -- the least value that a table has of each placement
-pub record AreLeastOf (table : Lookup) (least : List ℕ) : Type 0 where
+pub record AreLeastOf (table : TableModel) (least : List ℕ) : Type 0 where
   pub size : length least ≡ placement_count (cell_count table.selection.grid) (length table.selection.tiles)
-  pub values : (v : Sight) → IsView table.selection.grid table.selection.tiles v → IsFoldedValue table v (slice_index least (placement_in (length table.selection.tiles) v.cells))
+  pub values : (v : ViewModel) → IsView table.selection.grid table.selection.tiles v → IsFoldedValue table v (slice_index least (placement_in (length table.selection.tiles) v.cells))
 
 -- behind the old values stand those of the placements on a set of cells, by order
-pub record AreAdded (table : Lookup) (cells old new : List ℕ) : Type 0 where
+pub record AreLeastAdded (table : TableModel) (cells old new : List ℕ) : Type 0 where
   pub size : length new ≡ length old + factorial (length table.selection.tiles)
   pub kept : (i : ℕ) → i < length old → slice_index new i ≡ slice_index old i
-  pub added : (v : Sight) → IsView table.selection.grid table.selection.tiles v → AreSame v.cells cells → IsFoldedValue table v (slice_index new (length old + order_of v.cells))
+  pub added : (v : ViewModel) → IsView table.selection.grid table.selection.tiles v → AreSame v.cells cells → IsFoldedValue table v (slice_index new (length old + order_of v.cells))

@@ -2,8 +2,8 @@
 
 ghost use Rattle.std.specs.Prelude.{◌≡◌, IfOk};
 ghost use Rattle.database_build.specs.Tables.{HoldsValues};
-ghost use Rattle.pattern_graph.specs.Frames.{Fits};
-ghost use Rattle.pattern_search.specs.Searches.{IsTask};
+ghost use Rattle.pattern_graph.specs.Frames.{FitsGroup};
+ghost use Rattle.pattern_search.specs.Searches.{IsBuildTask};
 ghost use Rattle.database_build.specs.Folds.{IsTrueFold};
 
 use crate::entries::{keep_least, keep_values};
@@ -44,7 +44,7 @@ pub fn build_in(
     goal: &Board,
     weights: &Weights,
 ) -> Result<Table, OutOfMemory>
-    requires fits { Fits frame.now group.now }
+    requires fits { FitsGroup frame.now group.now }
     requires grid { goal.now.grid ≡ group.now.grid }
     requires weights { weights.now.grid ≡ group.now.grid }
     ensures group { IfOk result (λ t. t.selection ≡ group.now) }
@@ -63,7 +63,7 @@ fn build_of(
     goal: &Board,
     weights: &Weights,
 ) -> Result<Table, OutOfMemory>
-    requires { IsTask frame group.now goal.now weights.now }
+    requires { IsBuildTask frame group.now goal.now weights.now }
     ensures group { IfOk result (λ t. t.selection ≡ group.now) }
     ensures values { IfOk result (λ t. HoldsValues t weights.now goal.now) }
 {
@@ -96,7 +96,7 @@ pub fn build_folded_in(
     goal: &Board,
     weights: &Weights,
 ) -> Result<Folded, OutOfMemory>
-    requires fits { Fits frame.now group.now }
+    requires fits { FitsGroup frame.now group.now }
     requires grid { goal.now.grid ≡ group.now.grid }
     requires weights { weights.now.grid ≡ group.now.grid }
     ensures group { IfOk result (λ fold. fold.selection ≡ group.now) }
@@ -114,7 +114,7 @@ fn fold_of(
     goal: &Board,
     weights: &Weights,
 ) -> Result<Folded, OutOfMemory>
-    requires { IsTask frame group.now goal.now weights.now }
+    requires { IsBuildTask frame group.now goal.now weights.now }
     ensures group { IfOk result (λ fold. fold.selection ≡ group.now) }
     ensures values { IfOk result (IsTrueFold weights.now goal.now) }
 {

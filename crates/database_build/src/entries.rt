@@ -3,10 +3,12 @@
 ghost use Rattle.std.specs.Prelude.{replicate, ◌≡◌, ◌↔◌, ◌<◌, ◌≤◌, ◌^◌, IfOk, IsTrue};
 ghost use Rattle.std.specs.Prelude.{length, map, min};
 ghost use Rattle.pattern_index.specs.Sparse.{slot_count_of, sparse_size_of};
-ghost use Rattle.database_build.specs.Entries.{AreSmall, HasEntries, IsKeptBest, values_in, HasFewPlaces, HasLeast};
+ghost use Rattle.database_build.specs.Entries.{AreSmall, HasEntries, IsKeptBest, values_in};
+ghost use Rattle.database_build.specs.Entries.{HasFewPlaces, HasLeast};
 ghost use Rattle.database_build.specs.Entries.{least_in, most_places};
 ghost use Rattle.pattern_graph.specs.Graphs.{AreNodesOf};
-ghost use Rattle.pattern_graph.specs.Placements.{AreAllFilled, IsOnePerPlacement, AreNodeValues, ArePlaceValues};
+ghost use Rattle.pattern_graph.specs.Placements.{AreAllFilled, IsOnePerPlacement, AreNodeValues};
+ghost use Rattle.pattern_graph.specs.Placements.{ArePlaceValues};
 ghost use Rattle.pattern_graph.specs.Placements.{AreAllWritten};
 
 use crate::folding::{MOST_PLACES, PLACES_A_VALUE};

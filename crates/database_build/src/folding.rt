@@ -2,13 +2,14 @@
 
 ghost use Rattle.std.specs.Prelude.{ℕ, ◌≡◌, ◌⊎◌, ◌<◌, ◌≤◌, ◌↔◌, length, slice_index};
 ghost use Rattle.std.specs.Prelude.{Contains, IfNone, IfOk, IfSome, IsTrue, None};
-ghost use Rattle.board.specs.Grids.{cell_count};
-ghost use Rattle.pattern_index.specs.Views.{IsView, Sight, view_at};
-ghost use Rattle.pattern_index.specs.Selections.{IsSelection, folded_size_of};
+ghost use Rattle.board.specs.Shapes.{cell_count};
+ghost use Rattle.pattern_index.specs.Views.{IsView, ViewModel, view_at};
+ghost use Rattle.pattern_index.specs.Groups.{IsGroup, folded_size_of};
 ghost use Rattle.pattern_index.specs.Sparse.{sparse_in, sparse_size_of, stride_of};
 ghost use Rattle.database_build.specs.Folds.{IsFoldOf, folded_in};
 ghost use Rattle.pattern_graph.specs.Sets.{AreMarksOf};
-ghost use Rattle.database_build.specs.Entries.{AreStridesOf, HasLeast, least_in, most_places, sparse_of_place};
+ghost use Rattle.database_build.specs.Entries.{AreStridesOf, HasLeast, least_in, most_places};
+ghost use Rattle.database_build.specs.Entries.{sparse_of_place};
 ghost use Rattle.pattern_graph.specs.Placements.{HasNoView};
 
 use crate::entries::{Entries, keep_least};
@@ -39,16 +40,16 @@ pub struct Folded {
 }
 
 impl Model for Folded {
-    ghost use Rattle.database_build.specs.Folds.{Fold};
+    ghost use Rattle.database_build.specs.Folds.{FoldedModel};
     ghost use Rattle.pattern_graph.specs.Sets.{AreMarksOf};
     ghost use Rattle.database_build.specs.Entries.{AreStridesOf, HasLeast, least_in};
-    ghost use Rattle.pattern_index.specs.Selections.{IsSelection};
+    ghost use Rattle.pattern_index.specs.Groups.{IsGroup};
 
-    ghost Value = { Fold };
+    ghost Value = { FoldedModel };
 
     ghost view = { λ t. record { selection = t.group; least = least_in t.group t.entries } };
 
-    ghost invariant = { λ t. IsSelection t.group × HasLeast t.group t.entries
+    ghost invariant = { λ t. IsGroup t.group × HasLeast t.group t.entries
         × AreMarksOf t.group.tiles t.marks × AreStridesOf t.group t.strides };
 }
 
@@ -108,10 +109,10 @@ impl Folded {
     /// The folded value of the views with a sparse place, found with one read. None where it is
     /// `NO_VALUE`, or where the group has too many sparse places: `value` tells it then.
     pub fn sparse_value(&self, sparse: usize) -> Option<u16>
-        ensures some { IfSome result (λ value. (v : Sight)
+        ensures some { IfSome result (λ value. (v : ViewModel)
             → IsView self.now.selection.grid self.now.selection.tiles v
             → sparse_in self.now.selection.grid v ≡ sparse → value ≡ folded_in self.now v) }
-        ensures none { IfNone result ((v : Sight)
+        ensures none { IfNone result ((v : ViewModel)
             → IsView self.now.selection.grid self.now.selection.tiles v
             → sparse_in self.now.selection.grid v ≡ sparse
             → (folded_in self.now v ≡ NO_VALUE)
@@ -137,7 +138,7 @@ impl Folded {
         requires { tile < 25 }
         ensures value { result
             ≡ stride_of (cell_count self.now.selection.grid) self.now.selection.tiles tile }
-        ensures group { IsSelection self.now.selection }
+        ensures group { IsGroup self.now.selection }
     {
         self.strides[tile as usize]
     }
@@ -158,7 +159,7 @@ impl Folded {
     /// more tiles.
     pub fn has_tile(&self, tile: u8) -> bool
         ensures has { IsTrue result ↔ Contains self.now.selection.tiles tile }
-        ensures group { IsSelection self.now.selection }
+        ensures group { IsGroup self.now.selection }
     {
         match self.marks.get(tile as usize) {
             Some(is_marked) => *is_marked,
@@ -225,7 +226,7 @@ fn find_strides(group: &Group) -> [usize; 25]
 // Marks the tiles of a group among the numbers.
 fn mark_tiles(group: &Group) -> [bool; 25]
     ensures marks { AreMarksOf group.now.tiles result }
-    ensures group { IsSelection group.now }
+    ensures group { IsGroup group.now }
 {
     let tiles = group.tiles();
     let mut marks = [false; 25];

@@ -2,7 +2,8 @@
 
 ghost use Rattle.std.specs.Prelude.{◌≡◌, ◌^◌};
 ghost use Rattle.database_build.specs.Laws.{ValuesArePotentials, PotentialsAreLowerBounds};
-ghost use Rattle.database_build.specs.Laws.{ValuesAreReached, FoldedValuesAreLow, FoldedValuesAreReached};
+ghost use Rattle.database_build.specs.Laws.{ValuesAreReached, FoldedValuesAreLow};
+ghost use Rattle.database_build.specs.Laws.{FoldedValuesAreReached};
 ghost use Rattle.database_build.specs.Laws.{PlacesAreFew, FoldedValuesAreDetermined, FramesFitAll};
 ghost use Rattle.database_build.specs.Laws.{FormsAreDetermined, WordsAreNeeded};
 

@@ -4,9 +4,10 @@
 ghost use Rattle.std.specs.Prelude.{ℕ, List, ◌≡◌, ◌≢◌, ◌<◌, AllPairs, IfOk, OnOk};
 ghost use Rattle.std.specs.Prelude.{length, map, min, replicate, slice_index};
 ghost use Rattle.pattern_index.specs.Laws.{factorial};
-ghost use Rattle.pattern_index.specs.Selections.{IsSelection};
-ghost use Rattle.pattern_index.specs.Views.{Sight, IsView};
-ghost use Rattle.database_build.specs.Folds.{IsFoldedValue, AreAdded, IsLeastNode, AreLeastNodes, AreLeastOf};
+ghost use Rattle.pattern_index.specs.Groups.{IsGroup};
+ghost use Rattle.pattern_index.specs.Views.{ViewModel, IsView};
+ghost use Rattle.database_build.specs.Folds.{IsFoldedValue, AreLeastAdded, IsLeastNode};
+ghost use Rattle.database_build.specs.Folds.{AreLeastNodes, AreLeastOf};
 ghost use Rattle.pattern_graph.specs.Orders.{order_of, AreIndices};
 ghost use Rattle.pattern_graph.specs.Placements.{AreMarkedCells, AreSetOrders, AreNodesWith};
 ghost use Rattle.pattern_graph.specs.Regions.{IsPlaced};
@@ -106,9 +107,9 @@ fn add_orders(
     positions: &[u8],
     least: &mut Vec<u16>,
 ) -> Result<(), OutOfMemory>
-    requires group { IsSelection table.now.selection }
+    requires group { IsGroup table.now.selection }
     requires cells { AreSetOrders table.now.selection cells.now positions.now }
-    ensures { OnOk result (AreAdded table.now cells.now least.old.items least.new.items) }
+    ensures { OnOk result (AreLeastAdded table.now cells.now least.old.items least.new.items) }
 {
     let count = cells.len();
     let marks = mark_cells(cells);
@@ -128,7 +129,7 @@ fn add_orders(
 fn least_value(table: &Table, cells: &[u8], marks: &[bool; 25]) -> u16
     requires { AreMarkedCells table.now.selection.grid (length table.now.selection.tiles) cells.now
         marks.now }
-    ensures { (v : Sight) → IsView table.now.selection.grid table.now.selection.tiles v
+    ensures { (v : ViewModel) → IsView table.now.selection.grid table.now.selection.tiles v
         → v.cells ≡ cells.now → IsFoldedValue table.now v result }
 {
     let mut numbers = [0; 25];

@@ -2,7 +2,7 @@
 
 ghost use Rattle.std.specs.Prelude.{◌≡◌, ◌↔◌, ◌<◌, IsTrue};
 ghost use Rattle.pattern_index.specs.Views.{IsView, view_of};
-ghost use Rattle.pattern_index.specs.Selections.{size_of, abstraction_of, sight_successor};
+ghost use Rattle.pattern_index.specs.Groups.{size_of, abstraction_of, view_successor};
 ghost use Rattle.database_build.specs.Tables.{value_in, IsPotential, FallsTo, FallsSlowlyAt};
 
 use crate::table::Table;
@@ -73,7 +73,7 @@ fn falls_to(table: &Table, weights: &Weights, view: &View, value: u16, direction
     requires weights { weights.now.grid ≡ table.now.selection.grid }
     requires view { IsView table.now.selection.grid table.now.selection.tiles view.now }
     ensures { IsTrue result ↔ FallsTo table.now value
-        (sight_successor (abstraction_of table.now.selection weights.now) view.now direction) }
+        (view_successor (abstraction_of table.now.selection weights.now) view.now direction) }
 {
     let Some(moved) = table.group().step(view, direction, weights) else {
         return true;

@@ -1,8 +1,9 @@
 //! Tables: a number for each view of a group.
 
-ghost use Rattle.std.specs.Prelude.{ℕ, ◌≡◌, ◌≢◌, ◌↔◌, ◌<◌, ◌≤◌, length, slice_index, IsOk, IsErrOf, IfOk};
-ghost use Rattle.pattern_index.specs.Views.{IsView, Sight, view_at, exchanged};
-ghost use Rattle.pattern_index.specs.Selections.{rank_in, size_of};
+ghost use Rattle.std.specs.Prelude.{ℕ, ◌≡◌, ◌≢◌, ◌↔◌, ◌<◌, ◌≤◌, length, slice_index, IsOk, IsErrOf};
+ghost use Rattle.std.specs.Prelude.{IfOk};
+ghost use Rattle.pattern_index.specs.Views.{IsView, ViewModel, view_at, exchanged};
+ghost use Rattle.pattern_index.specs.Groups.{rank_in, size_of};
 ghost use Rattle.pattern_index.specs.Sparse.{digit_base, slot_in};
 ghost use Rattle.database_build.specs.Entries.{HasEntries, values_in, widened};
 ghost use Rattle.database_build.specs.Tables.{value_in};
@@ -22,10 +23,10 @@ pub struct Table {
 }
 
 impl Model for Table {
-    ghost use Rattle.database_build.specs.Tables.{Lookup};
+    ghost use Rattle.database_build.specs.Tables.{TableModel};
     ghost use Rattle.database_build.specs.Entries.{HasEntries, values_in};
 
-    ghost Value = { Lookup };
+    ghost Value = { TableModel };
 
     ghost view = { λ t. record { selection = t.group; values = values_in t.group t.entries } };
 
@@ -133,9 +134,9 @@ impl Table {
     /// The value of the view with a slot, found with one read unless it keeps its values by rank.
     #[inline]
     pub fn slot_value(&self, slot: usize) -> u16
-        requires { (v : Sight) × IsView self.now.selection.grid self.now.selection.tiles v
+        requires { (v : ViewModel) × IsView self.now.selection.grid self.now.selection.tiles v
             × (slot_in self.now.selection.grid v ≡ slot) }
-        ensures { (v : Sight) → IsView self.now.selection.grid self.now.selection.tiles v
+        ensures { (v : ViewModel) → IsView self.now.selection.grid self.now.selection.tiles v
             → slot_in self.now.selection.grid v ≡ slot → result ≡ value_in self.now v }
     {
         match &self.entries {
@@ -168,9 +169,9 @@ impl Table {
 // The rank of the view with a slot, whose digits are the cells of the blank and of the tiles.
 #[inline(never)]
 fn rank_of_slot(group: &Group, slot: usize) -> usize
-    requires { (v : Sight) × IsView group.now.grid group.now.tiles v
+    requires { (v : ViewModel) × IsView group.now.grid group.now.tiles v
         × (slot_in group.now.grid v ≡ slot) }
-    ensures value { (v : Sight) → IsView group.now.grid group.now.tiles v
+    ensures value { (v : ViewModel) → IsView group.now.grid group.now.tiles v
         → slot_in group.now.grid v ≡ slot → result ≡ rank_in group.now.grid v }
     ensures below { result < size_of group.now }
 {
@@ -185,9 +186,9 @@ fn rank_of_slot(group: &Group, slot: usize) -> usize
 #[inline(always)]
 fn rank_of_digits(base: usize, group: &Group, slot: usize) -> usize
     requires base { base ≡ digit_base group.now.grid }
-    requires view { (v : Sight) × IsView group.now.grid group.now.tiles v
+    requires view { (v : ViewModel) × IsView group.now.grid group.now.tiles v
         × (slot_in group.now.grid v ≡ slot) }
-    ensures value { (v : Sight) → IsView group.now.grid group.now.tiles v
+    ensures value { (v : ViewModel) → IsView group.now.grid group.now.tiles v
         → slot_in group.now.grid v ≡ slot → result ≡ rank_in group.now.grid v }
     ensures below { result < size_of group.now }
 {

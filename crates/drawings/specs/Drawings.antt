@@ -29,9 +29,9 @@ use Rattle.std.specs.Int.{div_ceil}
 use Rattle.std.specs.List.{flat_map, range_with_len}
 use Rattle.board.specs.declared.moves.Move.{Move}
 use Rattle.board.specs.Letters.{letter_of}
-use Rattle.board.specs.Grids.{Grid}
-use Rattle.board.specs.Positions.{Position}
-use Rattle.certificate.specs.Certificates.{Statement}
+use Rattle.board.specs.Shapes.{ShapeModel}
+use Rattle.board.specs.Boards.{BoardModel}
+use Rattle.certificate.specs.Certificates.{CertificateModel}
 use Rattle.drawings.specs.declared.pictures.Caption.{Caption}
 use Rattle.drawings.specs.declared.pictures.Caption.TheVariants.{Start, Step, Goal}
 use Rattle.drawings.specs.declared.pictures.Picture.{Picture}
@@ -54,11 +54,11 @@ caption_text (Step n m) = decimal n ++ (32 ∷ letter_of m ∷ [])
 caption_text Goal = codes "goal"
 
 -- how many columns a board takes
-abbrev pub columns_of : Grid → ℕ
+abbrev pub columns_of : ShapeModel → ℕ
 columns_of grid = 3 * (grid.cols + 1)
 
 -- the tiles of one row, from 0 at the top
-abbrev pub tiles_in_row : Position → ℕ → List ℕ
+abbrev pub tiles_in_row : BoardModel → ℕ → List ℕ
 tiles_in_row b row = take b.grid.cols (drop (row * b.grid.cols) b.tiles)
 
 -- a row of a board
@@ -74,11 +74,11 @@ abbrev pub line_text : (Picture → List ℕ) → List Picture → List ℕ
 line_text part pictures = flat_map part pictures ++ 10 ∷ []
 
 -- boards side by side: their captions, their rows, and an empty line
-abbrev pub band_text : Grid → List Picture → List ℕ
+abbrev pub band_text : ShapeModel → List Picture → List ℕ
 band_text grid pictures = line_text heading_text pictures ++ (flat_map (λ row. line_text (row_text row) pictures) (range_with_len 0 grid.rows) ++ 10 ∷ [])
 
 -- how many boards are side by side
-abbrev pub boards_within : ℕ → Grid → ℕ
+abbrev pub boards_within : ℕ → ShapeModel → ℕ
 boards_within width grid = max 1 (width / columns_of grid)
 
 -- the band with the number k, from 0, where each has n pictures
@@ -86,7 +86,7 @@ abbrev pub band_of : ℕ → List Picture → ℕ → List Picture
 band_of n pictures k = take n (drop (k * n) pictures)
 
 -- all pictures in bands
-abbrev pub bands_text : Grid → ℕ → List Picture → List ℕ
+abbrev pub bands_text : ShapeModel → ℕ → List Picture → List ℕ
 bands_text grid n pictures = flat_map (λ k. band_text grid (band_of n pictures k)) (range_with_len 0 (div_ceil (length pictures) n))
 
 -- the last line: the number of the plan's moves and its cost, or the bound
@@ -95,10 +95,10 @@ claim_text (Some plan) cost = codes "moves: " ++ (decimal (length plan) ++ (code
 claim_text None bound = codes "bound: " ++ (decimal bound ++ codes " (claimed: no plan costs less)\n")
 
 -- all pictures, and what is claimed
-abbrev pub drawing_text : ℕ → Statement → List Picture → List ℕ
+abbrev pub drawing_text : ℕ → CertificateModel → List Picture → List ℕ
 drawing_text width c pictures = bands_text c.grid (boards_within width c.grid) pictures ++ claim_text c.plan c.cost
 
 -- These bytes draw the certificate: as text within `width` columns. What an SVG file looks like is not said here.
-abbrev pub IsDrawing : Style → Statement → List ℕ → Type 0
+abbrev pub IsDrawing : Style → CertificateModel → List ℕ → Type 0
 IsDrawing (Text width) c bytes = (pictures : List Picture) × ArePictures c pictures × (bytes ≡ drawing_text width c pictures)
 IsDrawing (Svg seconds) c bytes = ⊤

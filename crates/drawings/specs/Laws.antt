@@ -3,7 +3,7 @@ use Rattle.std.specs.Prelude.{ℕ, ◌≡◌, ◌<◌, List, length}
 use Rattle.std.specs.Int.{div_ceil}
 use Rattle.std.specs.List.{flat_map, range_with_len}
 use Rattle.drawings.specs.declared.pictures.Picture.{Picture}
-use Rattle.certificate.specs.Certificates.{Statement}
+use Rattle.certificate.specs.Certificates.{CertificateModel}
 use Rattle.drawings.specs.declared.drawing.Style.TheVariants.{Text}
 use Rattle.drawings.specs.Drawings.{band_of, IsDrawing}
 
@@ -13,4 +13,4 @@ BandsAreWhole = (pictures : List Picture) (n : ℕ) → 0 < n → flat_map (λ k
 
 -- a certificate has one drawing in this many columns
 abbrev pub DrawingsAreDetermined : Type 0
-DrawingsAreDetermined = (width : ℕ) (c : Statement) (a b : List ℕ) → IsDrawing (Text width) c a → IsDrawing (Text width) c b → b ≡ a
+DrawingsAreDetermined = (width : ℕ) (c : CertificateModel) (a b : List ℕ) → IsDrawing (Text width) c a → IsDrawing (Text width) c b → b ≡ a

@@ -1,7 +1,7 @@
 //! The pictures of a certificate: boards under captions.
 
 ghost use Rattle.std.specs.Prelude.{ℕ, ◌≡◌, ◌≤◌, ◌++◌, List, IfOk, IfSome, OnOk, length};
-ghost use Rattle.board.specs.Positions.{Position};
+ghost use Rattle.board.specs.Boards.{BoardModel};
 ghost use Rattle.board.specs.Plans.{Leads};
 ghost use Rattle.certificate.specs.Certificates.{IsWithinLimit, cost_of, plan_of};
 ghost use Rattle.drawings.specs.Pictures.{ArePictures, AreSteps, AreStepsOf};
@@ -74,7 +74,7 @@ fn push_claimed(
     requires sides { weights.now.grid ≡ start.now.grid }
     requires short { IfSome (plan_of claim.now) (λ plan. IsWithinLimit (length plan)) }
     requires leads { IfSome (plan_of claim.now)
-        (λ plan. (q : Position) × (k : ℕ) × Leads weights.now start.now plan q k) }
+        (λ plan. (q : BoardModel) × (k : ℕ) × Leads weights.now start.now plan q k) }
     ensures { OnOk result ((steps : List Picture)
         × AreStepsOf weights.now start.now (plan_of claim.now) steps
         × (pictures.new.items ≡ pictures.old.items ++ steps)) }
@@ -94,7 +94,7 @@ fn push_steps(
 ) -> Result<(), OutOfMemory>
     requires sides { weights.now.grid ≡ start.now.grid }
     requires short { IsWithinLimit (length plan.now) }
-    requires leads { (q : Position) × (k : ℕ) × Leads weights.now start.now plan.now q k }
+    requires leads { (q : BoardModel) × (k : ℕ) × Leads weights.now start.now plan.now q k }
     ensures { OnOk result ((steps : List Picture)
         × AreSteps weights.now 1 start.now plan.now steps
         × (pictures.new.items ≡ pictures.old.items ++ steps)) }

@@ -6,7 +6,7 @@ use Rattle.std.specs.Prelude.{Any, fold, slice_get, slice_set, sum_by, min, All,
 use Rattle.std.specs.FinMap as fin
 use Rattle.std.proofs.lemmas.List.Elements.{All-append}
 use Rattle.memory.specs.declared.OutOfMemory.{OutOfMemory}
-use Rattle.board.specs.Positions.{Position}
+use Rattle.board.specs.Boards.{BoardModel}
 use Rattle.board.specs.declared.moves.Move.{Move}
 use Rattle.search_keys.specs.SearchKeys.{search_key}
 use Rattle.outcomes.specs.Outcomes.{Task}
@@ -41,7 +41,7 @@ use Rattle.world_model.specs.declared.steps.HaltCause.TheVariants as causes
 use Rattle.world_model.specs.declared.steps.Stop.TheVariants as stops
 use Rattle.world_model.specs.Openings.{Job, IsJob, opening, first_worker, idle_worker}
 use Rattle.world_model.proofs.RestLemmas.{runs_joined}
-use Rattle.hda_run.specs.Rounds.{IsLone, Refuses, work_left, Reaches, Stops}
+use Rattle.hda_run.specs.Rounds.{IsLone, RefusesStep, work_left, Reaches, Stops}
 use Rattle.hda_run.specs.Alone.{HaltsNowhere, IsHalt, AreLast, IsRunAlone}
 
 -- ---- runs, one step longer
@@ -100,7 +100,7 @@ module _ (w : WorldState) (lone : IsLone w) where
   pub not_past : ¬ (length w.workers ≤ 0)
   not_past past = let n = count in omega (arith, past, n)
 
-  pub zero_owner : (b : Position) → w.owner b ≡ 0
+  pub zero_owner : (b : BoardModel) → w.owner b ≡ 0
   zero_owner b = let lt = lone.shaped.owners b in let n = count in omega (arith, lt, n)
 
   role : role_of w 0 ≡ lone_role w.task
@@ -137,7 +137,7 @@ module _ (w : WorldState) (lone : IsLone w) where
 
   -- ---- it expands a board
 
-  grown : (x x' : WorkerState) (b : Position) (known : Known) → x' ≡ expansion (role_of w 0) x b known → (k : Knowledge) × (x' ≡ record x { known = k; allowance = x.allowance - 1; expansions = x.expansions + 1 })
+  grown : (x x' : WorkerState) (b : BoardModel) (known : Known) → x' ≡ expansion (role_of w 0) x b known → (k : Knowledge) × (x' ≡ record x { known = k; allowance = x.allowance - 1; expansions = x.expansions + 1 })
   grown x x' b known is =
       let only = known_only w.task (successor_items w.task.rule b known.cost) (with_closure x b known) in
       (only.0, is ∙ ap (λ (r : Role). expansion r x b known) role ∙ only.1)
@@ -166,7 +166,7 @@ module _ (w : WorldState) (lone : IsLone w) where
                 (ap (λ (v : WorldState). v.book.limit) is) (ap (λ (v : WorldState). v.book.granted) is) (now ∙ ap (λ (n : ℕ). n + 1) (sym before)) (expansions_limited w' credited),
           )
 
-  room : (x : WorkerState) → IsWorker w 0 x → (b : Position) (known : Known) → ¬ IsOverfull (expansion (role_of w 0) x b known)
+  room : (x : WorkerState) → IsWorker w 0 x → (b : BoardModel) (known : Known) → ¬ IsOverfull (expansion (role_of w 0) x b known)
   room x at b known full =
       let big = grown x (expansion (role_of w 0) x b known) b known refl in
       let unsent : (expansion (role_of w 0) x b known).unsent ≡ [] ∷ [] = ap (λ (y : WorkerState). y.unsent) big.1 ∙ subst (λ (y : WorkerState). y.unsent ≡ [] ∷ []) (same x at) lone.sends_nothing in
@@ -180,7 +180,7 @@ module _ (w : WorldState) (lone : IsLone w) where
   why refusal w' (inr (there, (x, x', at, inr (busy, inr (left, (b, known, next, inr (fits, inl out)))), is))) = let e : ◌≡◌ {A = Option Refusal} (Some refusal) None = out.0 in absurd (cc)
   why refusal w' (inr (there, (x, x', at, inr (busy, inr (left, (b, known, next, inr (fits, inr (refused, out))))), is))) = let e : Some refusal ≡ Some (Memory refused) = out.0 in inr (inr (refused, search e))
 
-  pub expand_refused : (refusal : Refusal) (w' : WorldState) → Next (Expand 0) (turn w (Some refusal) w') → (w' ≡ w) × IsWhy refusal × Refuses w (Expand 0) refusal
+  pub expand_refused : (refusal : Refusal) (w' : WorldState) → Next (Expand 0) (turn w (Some refusal) w') → (w' ≡ w) × IsWhy refusal × RefusesStep w (Expand 0) refusal
   expand_refused refusal w' next =
       let left = refusals_change_nothing (Expand 0) w refusal w' next in
       (left, why refusal w' next, subst (λ (v : WorldState). Next (Expand 0) (turn w (Some refusal) v)) left next)
@@ -192,7 +192,7 @@ module _ (w : WorldState) (lone : IsLone w) where
     pub busy : ¬ HasNothingBelow w.task lone.worker (limit_of w.book.best)
     pub none : lone.worker.allowance ≡ 0
 
-  pub spent : Refuses w (Expand 0) NoAllowance → IsSpent
+  pub spent : RefusesStep w (Expand 0) NoAllowance → IsSpent
   spent (inl (past, out)) = absurd (not_past past)
   spent (inr (there, (x, x', at, inl (nothing, out), is))) = let e : ◌≡◌ {A = Option Refusal} (Some NoAllowance) (Some NothingBelowLimit) = out.0 in absurd (cc)
   spent (inr (there, (x, x', at, inr (busy, inl (none, out)), is))) =
@@ -213,7 +213,7 @@ module _ (w : WorldState) (lone : IsLone w) where
   all_granted is refusal w' (inr (there, (x, new, at, inr (runs, inr (busy, inr (none, inl (all, out)))), eq))) = let e : Some refusal ≡ Some NoAllowance = out.0 in search e
   all_granted is refusal w' (inr (there, (x, new, at, inr (runs, inr (busy, inr (none, inr (more, out)))), eq))) = let e : ◌≡◌ {A = Option Refusal} (Some refusal) None = out.0 in absurd (cc)
 
-  pub grant_refused : Refuses w (Expand 0) NoAllowance → (refusal : Refusal) (w' : WorldState) → Next (Grant 0) (turn w (Some refusal) w') → (w' ≡ w) × Refuses w (Grant 0) NoAllowance
+  pub grant_refused : RefusesStep w (Expand 0) NoAllowance → (refusal : Refusal) (w' : WorldState) → Next (Grant 0) (turn w (Some refusal) w') → (w' ≡ w) × RefusesStep w (Grant 0) NoAllowance
   grant_refused stuck refusal w' next =
       let left = refusals_change_nothing (Grant 0) w refusal w' next in
       let why = all_granted (spent stuck) refusal w' next in (
@@ -308,7 +308,7 @@ quiet_only refusal (inr (inr (refused, is))) allowed fits = absurd (fits refused
 -- what a refused expansion leaves
 pub record IsRefusedAlone (w w' : WorldState) (refusal : Refusal) : Type 0 where
   pub lone : IsLone w'
-  pub refuses : Refuses w' (Expand 0) refusal
+  pub refuses : RefusesStep w' (Expand 0) refusal
   pub why : IsWhy refusal
   pub same : w' ≡ w
 
@@ -316,19 +316,19 @@ pub refused_alone : (w : WorldState) → IsLone w → (refusal : Refusal) (w' : 
 refused_alone w lone refusal w' next =
     let all = expand_refused w lone refusal w' next in
     let back = sym all.0 in
-    record { lone = subst IsLone back lone; refuses = subst (λ (v : WorldState). Refuses v (Expand 0) refusal) back all.2; why = all.1; same = all.0 }
+    record { lone = subst IsLone back lone; refuses = subst (λ (v : WorldState). RefusesStep v (Expand 0) refusal) back all.2; why = all.1; same = all.0 }
 
 -- and what a grant leaves that is refused after it
 pub record IsSpentAlone (w w' : WorldState) : Type 0 where
   pub lone : IsLone w'
-  pub refuses : Refuses w' (Grant 0) NoAllowance
+  pub refuses : RefusesStep w' (Grant 0) NoAllowance
   pub same : w' ≡ w
 
-pub spent_alone : (w : WorldState) → IsLone w → Refuses w (Expand 0) NoAllowance → (refusal : Refusal) (w' : WorldState) → Next (Grant 0) (turn w (Some refusal) w') → IsSpentAlone w w'
+pub spent_alone : (w : WorldState) → IsLone w → RefusesStep w (Expand 0) NoAllowance → (refusal : Refusal) (w' : WorldState) → Next (Grant 0) (turn w (Some refusal) w') → IsSpentAlone w w'
 spent_alone w lone stuck refusal w' next =
     let all = grant_refused w lone stuck refusal w' next in
     let back = sym all.0 in
-    record { lone = subst IsLone back lone; refuses = subst (λ (v : WorldState). Refuses v (Grant 0) NoAllowance) back all.1; same = all.0 }
+    record { lone = subst IsLone back lone; refuses = subst (λ (v : WorldState). RefusesStep v (Grant 0) NoAllowance) back all.1; same = all.0 }
 
 -- ---- the worker rests
 
@@ -337,7 +337,7 @@ abbrev pub IsDone : WorldState → Type 0
 IsDone w = (x : WorkerState) → IsWorker w 0 x → IsIdle w.task x (limit_of w.book.best) w.book.best
 
 module _ (w : WorldState) (lone : IsLone w) where
-  nothing_below : Refuses w (Expand 0) NothingBelowLimit → HasNothingBelow w.task lone.worker (limit_of w.book.best)
+  nothing_below : RefusesStep w (Expand 0) NothingBelowLimit → HasNothingBelow w.task lone.worker (limit_of w.book.best)
   nothing_below (inl (past, out)) = absurd (not_past w lone past)
   nothing_below (inr (there, (x, x', at, inl (nothing, out), is))) =
       subst (λ (best : Option ℕ). HasNothingBelow w.task lone.worker (limit_of best)) (best_is w lone) (subst (λ (y : WorkerState). HasNothingBelow w.task y (limit_of y.best)) (sym (same w lone x at)) nothing)
@@ -361,7 +361,7 @@ module _ (w : WorldState) (lone : IsLone w) where
       none_there zero d within = refl
       none_there (suc k) d within = absurd (omega (arith, within))
 
-  done : Refuses w (Expand 0) NothingBelowLimit → (answer : Option Refusal) (w' : WorldState) → Next (Announce 0) (turn w answer w') → IsDone w'
+  done : RefusesStep w (Expand 0) NothingBelowLimit → (answer : Option Refusal) (w' : WorldState) → Next (Announce 0) (turn w answer w') → IsDone w'
   done stuck answer w' (inl (past, out)) = absurd (not_past w lone past)
   done stuck answer w' (inr (there, (x, new, at, inl (stopped, out), eq))) = absurd (stopped lone.goes_on)
   done stuck answer w' (inr (there, (x, new, at, inr (runs, inl (nothing, out)), eq))) =
@@ -412,7 +412,7 @@ module _ (w : WorldState) (lone : IsLone w) where
   halts cause over answer w' (inr (there, (x, new, at, inr (runs, inl (may, out)), eq))) = absurd (over x at may)
   halts cause over answer w' (inr (there, (x, new, at, inr (runs, inr (may, out)), eq))) = (out.0, ap (λ (v : WorldState). v.book.stop) eq ∙ ap (λ (at : AtBook). at.book.stop) out.1)
 
-  limit_over : Refuses w (Grant 0) NoAllowance → (x : WorkerState) → IsWorker w 0 x → ¬ MayGoOn (record { worker = x; book = w.book }) causes.Limit
+  limit_over : RefusesStep w (Grant 0) NoAllowance → (x : WorkerState) → IsWorker w 0 x → ¬ MayGoOn (record { worker = x; book = w.book }) causes.Limit
   limit_over (inl (past, out)) x at may = not_past w lone past
   limit_over (inr (there, (y, new, here, inl (stopped, out), eq))) x at may = stopped lone.goes_on
   limit_over (inr (there, (y, new, here, inr (runs, inl (nothing, out)), eq))) x at may = let e : ◌≡◌ {A = Option Refusal} (Some NoAllowance) (Some NothingBelowLimit) = out.0 in absurd (cc)
@@ -422,7 +422,7 @@ module _ (w : WorldState) (lone : IsLone w) where
       ⊎_elim (λ (some : 0 < x.allowance). none (λ z. omega (arith, some, e, z))) (λ (more : w.book.granted < w.book.limit). omega (arith, more, all)) may
   limit_over (inr (there, (y, new, here, inr (runs, inr (busy, inr (none, inr (more, out)))), eq))) x at may = let e : ◌≡◌ {A = Option Refusal} (Some NoAllowance) None = out.0 in absurd (cc)
 
-  pub stops_for_limit : Refuses w (Grant 0) NoAllowance → (answer : Option Refusal) (w' : WorldState) → Next (Halt 0 causes.Limit) (turn w answer w') → Stops w w'
+  pub stops_for_limit : RefusesStep w (Grant 0) NoAllowance → (answer : Option Refusal) (w' : WorldState) → Next (Halt 0 causes.Limit) (turn w answer w') → Stops w w'
   stops_for_limit stuck answer w' halt =
       let over = halts causes.Limit (limit_over stuck) answer w' halt in
       record {
@@ -433,7 +433,7 @@ module _ (w : WorldState) (lone : IsLone w) where
         ends = subst (AreLast ((Grant 0, Some NoAllowance) ∷ (Halt 0 causes.Limit, None) ∷ [])) (sym over.1) refl;
       }
 
-  pub stops_for_memory : (refused : OutOfMemory) → Refuses w (Expand 0) (Memory refused) → (answer : Option Refusal) (w' : WorldState) → Next (Halt 0 (causes.Memory (Refused refused))) (turn w answer w') → Stops w w'
+  pub stops_for_memory : (refused : OutOfMemory) → RefusesStep w (Expand 0) (Memory refused) → (answer : Option Refusal) (w' : WorldState) → Next (Halt 0 (causes.Memory (Refused refused))) (turn w answer w') → Stops w w'
   stops_for_memory refused stuck answer w' halt =
       let cause = causes.Memory (Refused refused) in
       let last : List Made = (Expand 0, Some (Memory refused)) ∷ (Halt 0 cause, None) ∷ [] in
@@ -447,7 +447,7 @@ module _ (w : WorldState) (lone : IsLone w) where
       }
 
 -- the worker rests after it has announced what it knows
-pub stops_resting : (w middle w' : WorldState) → IsLone w → Refuses w (Expand 0) NothingBelowLimit → (answer other : Option Refusal) → Next (Announce 0) (turn w answer middle) → Next (Rest 0) (turn middle other w') → Stops w w'
+pub stops_resting : (w middle w' : WorldState) → IsLone w → RefusesStep w (Expand 0) NothingBelowLimit → (answer other : Option Refusal) → Next (Announce 0) (turn w answer middle) → Next (Rest 0) (turn middle other w') → Stops w w'
 stops_resting w middle w' lone stuck answer other announce rest =
     let over = rests middle (announces w lone answer middle announce).0 (done w lone stuck answer middle announce) other w' rest in
     record {

@@ -5,9 +5,9 @@ use Rattle.std.specs.FinMap as fin
 use Rattle.std.proofs.lemmas.Option.{none-some, slice_get_within}
 use Rattle.search_keys.specs.SearchKeys.{search_key}
 use Rattle.board.specs.Plans.{NothingBelow}
-use Rattle.board.specs.Positions.{Position}
+use Rattle.board.specs.Boards.{BoardModel}
 use Rattle.board.specs.Rows.{IsLowerBound}
-use Rattle.search_lists.specs.Lists.{Lists}
+use Rattle.search_lists.specs.Lists.{SearchListsModel}
 use Rattle.search_lists.specs.Orders.{Guide, IsInOrder, NoneBelow}
 use Rattle.world_model.specs.declared.parts.Item.{Item}
 use Rattle.world_model.specs.declared.parts.Known.{Known}
@@ -21,14 +21,14 @@ use Rattle.worker_core.specs.Roles.{guide_of}
 use Rattle.worker_core.specs.Workers.{state_of}
 use Rattle.worker_core.proofs.GuideLemmas.{none_below, open_key}
 use Rattle.hda_run.specs.declared.parts.Parts.{Parts}
-use Rattle.hda_run.specs.Problems.{task_in}
-use Rattle.hda_run.specs.Rounds.{IsLone, IsBoundOf, IsWithoutBound}
+use Rattle.hda_run.specs.Jobs.{task_in}
+use Rattle.hda_run.specs.Rounds.{IsLone, IsBoundSoFar, IsWithoutBound}
 use Rattle.hda_run.specs.Worlds.{world_of, AreGuided, WaitsFrom}
 use Rattle.hda_run.proofs.AloneLemmas.{same}
 use Rattle.hda_run.proofs.PartsLemmas.{W, is_worker, is_guided, state_count}
 
 -- the lists have no entry
-abbrev pub NothingWaitsIn : Lists → Type 0
+abbrev pub NothingWaitsIn : SearchListsModel → Type 0
 NothingWaitsIn lists = (f : ℕ) → slice_index_or lists.waiting.entries f [] ≡ []
 
 module _ (w : WorldState) (lone : IsLone w) where
@@ -61,7 +61,7 @@ module _ (w : WorldState) (lone : IsLone w) where
       none_in_empty has.2 item (emptied to has.2 (subst (λ (u : List Packet). slice_get u to ≡ Some has.2) unsent has.4)) has.5
   none_under_way to item (inr (inr has)) = none_lies has.0 to has.1 has.2
 
-  open_at : (b : Position) (cost : ℕ) → IsInFrontier w b cost → (known : Known) × IsOpen w.task lone.worker b known × (known.cost ≡ cost)
+  open_at : (b : BoardModel) (cost : ℕ) → IsInFrontier w b cost → (known : Known) × IsOpen w.task lone.worker b known × (known.cost ≡ cost)
   open_at b cost (inl has) = (
     has.1,
     subst (λ (x : WorkerState). IsOpen w.task x b has.1) (sym (is_one has.0 has.2.worker has.2.is))
@@ -74,7 +74,7 @@ module _ (w : WorldState) (lone : IsLone w) where
   none_undercuts : (n : ℕ) → IsSound w → IsLowerBound w.task.rule w.task.sum w.task.goal → HasNothingBelow w.task lone.worker n → fin.get lone.worker.known (search_key w.task.goal) ≡ None → NothingBelow w.task.rule w.task.start w.task.goal n
   none_undercuts n sound lower none unknown = frontier_bounds w lone.shaped sound lower n low far
     where
-      low : (b : Position) (cost : ℕ) → IsInFrontier w b cost → n ≤ cost + w.task.sum b
+      low : (b : BoardModel) (cost : ℕ) → IsInFrontier w b cost → n ≤ cost + w.task.sum b
       low b cost here =
           let at = open_at b cost here in
           let le = none b at.0 at.1 in
@@ -86,7 +86,7 @@ module _ (w : WorldState) (lone : IsLone w) where
           let there = subst (λ (x : WorkerState). fin.get x.known (search_key w.task.goal) ≡ Some known) (sym (is_one (w.owner w.task.goal) knows.worker knows.is)) knows.knows in
           absurd (none-some known (sym unknown ∙ there))
 
-module _ {S : Type 0} (owner_of : S → ℕ → Position → ℕ) (parts : Parts S) (lone : IsLone (world_of owner_of parts)) where
+module _ {S : Type 0} (owner_of : S → ℕ → BoardModel → ℕ) (parts : Parts S) (lone : IsLone (world_of owner_of parts)) where
   -- there is a worker
   pub some_worker : 0 < length parts.workers.items
   some_worker =
@@ -102,26 +102,26 @@ module _ {S : Type 0} (owner_of : S → ℕ → Position → ℕ) (parts : Parts
     alone = same (world_of owner_of parts) lone (state_of worker) there
 
     -- what the worker's lists say of the goal, by its key
-    pub looked_up : (lists : Lists) (key : ℕ) (got : Option Known) → lists ≡ worker.lists → key ≡ search_key parts.job.goal → got ≡ fin.get lists.closed.known key → fin.get worker.lists.closed.known (search_key parts.job.goal) ≡ got
+    pub looked_up : (lists : SearchListsModel) (key : ℕ) (got : Option Known) → lists ≡ worker.lists → key ≡ search_key parts.job.goal → got ≡ fin.get lists.closed.known key → fin.get worker.lists.closed.known (search_key parts.job.goal) ≡ got
     looked_up lists key got same_lists same_key read = (λ t. fin.get (sym same_lists t).closed.known (sym same_key t)) ∙ sym read
 
     -- what no open board is below, by the worker's lists
-    pub bound_by_lists : IsSound (world_of owner_of parts) → AreGuided parts → IsLowerBound parts.job.rule (task_in parts.job).sum parts.job.goal → fin.get worker.lists.closed.known (search_key parts.job.goal) ≡ None → (lists : Lists) → lists ≡ worker.lists → (least : Option ℕ) → IfSome least (λ n. (guide : Guide) → IsInOrder guide lists → NoneBelow guide lists.closed n) → IfSome least (NothingBelow parts.job.rule parts.job.start parts.job.goal)
+    pub bound_by_lists : IsSound (world_of owner_of parts) → AreGuided parts → IsLowerBound parts.job.rule (task_in parts.job).sum parts.job.goal → fin.get worker.lists.closed.known (search_key parts.job.goal) ≡ None → (lists : SearchListsModel) → lists ≡ worker.lists → (least : Option ℕ) → IfSome least (λ n. (guide : Guide) → IsInOrder guide lists → NoneBelow guide lists.closed n) → IfSome least (NothingBelow parts.job.rule parts.job.start parts.job.goal)
     bound_by_lists sound guided lower unknown lists same_lists None none = none
     bound_by_lists sound guided lower unknown lists same_lists (Some n) none =
         let task = task_in parts.job in
         let is = is_guided owner_of parts 0 worker some_worker at guided in
-        let here : NoneBelow (guide_of task) worker.lists.closed n = subst (λ (l : Lists). (guide : Guide) → IsInOrder guide l → NoneBelow guide l.closed n) same_lists none (guide_of task) is.order in
+        let here : NoneBelow (guide_of task) worker.lists.closed n = subst (λ (l : SearchListsModel). (guide : Guide) → IsInOrder guide l → NoneBelow guide l.closed n) same_lists none (guide_of task) is.order in
         let low = none_below task (guide_of task) worker.lists (state_of worker) refl is n here in
         none_undercuts (world_of owner_of parts) lone n sound lower (subst (λ (x : WorkerState). HasNothingBelow task x n) (sym alone) low)
         (subst (λ (x : WorkerState). fin.get x.known (search_key task.goal) ≡ None) (sym alone) unknown)
 
     -- and where nothing waits
-    pub nothing_waits : AreGuided parts → (lists : Lists) → lists ≡ worker.lists → (least : Option ℕ) → (least ≡ None → NothingWaitsIn lists) → IfNone least (IsWithoutBound (world_of owner_of parts))
+    pub nothing_waits : AreGuided parts → (lists : SearchListsModel) → lists ≡ worker.lists → (least : Option ℕ) → (least ≡ None → NothingWaitsIn lists) → IfNone least (IsWithoutBound (world_of owner_of parts))
     nothing_waits guided lists same_lists (Some n) lowest = _
     nothing_waits guided lists same_lists None lowest = inr empty
       where
-        empty : (b : Position) (cost : ℕ) → ¬ IsInFrontier (world_of owner_of parts) b cost
+        empty : (b : BoardModel) (cost : ℕ) → ¬ IsInFrontier (world_of owner_of parts) b cost
         empty b cost here =
             let task = task_in parts.job in
             let is = is_guided owner_of parts 0 worker some_worker at guided in
@@ -137,26 +137,26 @@ module _ {S : Type 0} (owner_of : S → ℕ → Position → ℕ) (parts : Parts
 
 -- ---- at which f the one worker's boards wait
 
-one_waits : (w worker : W) → worker ≡ w → (lists : Lists) → lists ≡ worker.lists → (f : ℕ) → WaitsFrom lists f → (k : ℕ) (d : W) → k < 1 → WaitsFrom (get_or (w ∷ []) k d).lists f
-one_waits w worker is lists kept f waits zero d first = subst (λ (l : Lists). WaitsFrom l f) (kept ∙ ap (λ (x : W). x.lists) is) waits
+one_waits : (w worker : W) → worker ≡ w → (lists : SearchListsModel) → lists ≡ worker.lists → (f : ℕ) → WaitsFrom lists f → (k : ℕ) (d : W) → k < 1 → WaitsFrom (get_or (w ∷ []) k d).lists f
+one_waits w worker is lists kept f waits zero d first = subst (λ (l : SearchListsModel). WaitsFrom l f) (kept ∙ ap (λ (x : W). x.lists) is) waits
 one_waits w worker is lists kept f waits (suc k) d first = absurd (omega (arith, first))
 
-waits_alone : (workers : List W) (worker : W) → length workers ≡ 1 → worker ≡ get_or workers 0 worker → (lists : Lists) → lists ≡ worker.lists → (f : ℕ) → WaitsFrom lists f → All (λ (w : W). WaitsFrom w.lists f) workers
+waits_alone : (workers : List W) (worker : W) → length workers ≡ 1 → worker ≡ get_or workers 0 worker → (lists : SearchListsModel) → lists ≡ worker.lists → (f : ℕ) → WaitsFrom lists f → All (λ (w : W). WaitsFrom w.lists f) workers
 waits_alone [] worker one is lists kept f waits = absurd (omega (arith, one))
 waits_alone (w ∷ []) worker one is lists kept f waits = one_waits w worker is lists kept f waits
 waits_alone (w ∷ x ∷ rest) worker one is lists kept f waits = absurd (omega (arith, one))
 
-pub least_told : {S : Type 0} (owner_of : S → ℕ → Position → ℕ) (parts : Parts S) → IsLone (world_of owner_of parts) → (worker : W) → worker ≡ get_or parts.workers.items 0 worker → (lists : Lists) → lists ≡ worker.lists → (least : Option ℕ) → ((f : ℕ) → least ≡ Some f → WaitsFrom lists f) → IfSome least (λ f. All (λ (w : W). WaitsFrom w.lists f) parts.workers.items)
+pub least_told : {S : Type 0} (owner_of : S → ℕ → BoardModel → ℕ) (parts : Parts S) → IsLone (world_of owner_of parts) → (worker : W) → worker ≡ get_or parts.workers.items 0 worker → (lists : SearchListsModel) → lists ≡ worker.lists → (least : Option ℕ) → ((f : ℕ) → least ≡ Some f → WaitsFrom lists f) → IfSome least (λ f. All (λ (w : W). WaitsFrom w.lists f) parts.workers.items)
 least_told owner_of parts lone worker is lists kept None waits = tt
 least_told owner_of parts lone worker is lists kept (Some f) waits =
     let one = sym (state_count owner_of parts) ∙ ap (λ (xs : List WorkerState). length xs) lone.is in
     waits_alone parts.workers.items worker one is lists kept f (waits f refl)
 
 -- the bound is what the three lemmas above say of it
-pub is_bound : {S : Type 0} (owner_of : S → ℕ → Position → ℕ) (parts : Parts S) (least : Option ℕ) → IfSome least (NothingBelow parts.job.rule parts.job.start parts.job.goal) → IfNone least (IsWithoutBound (world_of owner_of parts)) → IfSome least (λ f. All (λ (w : W). WaitsFrom w.lists f) parts.workers.items) → IsBoundOf owner_of parts least
+pub is_bound : {S : Type 0} (owner_of : S → ℕ → BoardModel → ℕ) (parts : Parts S) (least : Option ℕ) → IfSome least (NothingBelow parts.job.rule parts.job.start parts.job.goal) → IfNone least (IsWithoutBound (world_of owner_of parts)) → IfSome least (λ f. All (λ (w : W). WaitsFrom w.lists f) parts.workers.items) → IsBoundSoFar owner_of parts least
 is_bound owner_of parts None below none waits = none
 is_bound owner_of parts (Some f) below none waits = (below, waits)
 
-pub goal_is_known : (w : WorldState) (b : Position) (cost : ℕ) → IsWithoutBound w → IsInFrontier w b cost → (known : Known) × Knows w 0 w.task.goal known
+pub goal_is_known : (w : WorldState) (b : BoardModel) (cost : ℕ) → IsWithoutBound w → IsInFrontier w b cost → (known : Known) × Knows w 0 w.task.goal known
 goal_is_known w b cost (inl knows) opens = knows
 goal_is_known w b cost (inr none) opens = absurd (none b cost opens)

@@ -4,7 +4,7 @@ use Rattle.std.specs.Prelude.{Vec, Contains}
 use Rattle.std.specs.declared.alloc.Global.{Global}
 use Rattle.std.proofs.lemmas.List.Elements.{All-contains, Contains-append_cases, Contains-append_right}
 use Rattle.board.specs.declared.moves.Move.{Move}
-use Rattle.board.specs.Positions.{Position, blank_of}
+use Rattle.board.specs.Boards.{BoardModel, blank_of}
 use Rattle.board.specs.Rows.{IsLowerBound}
 use Rattle.outcomes.specs.declared.outcome.Cause.{Cause}
 use Rattle.outcomes.specs.declared.outcome.Cause.TheVariants.{Cut, Start, Memory, Limit as ForLimit}
@@ -41,7 +41,7 @@ use Rattle.world_ends.specs.Readings.{HasBoundOf, IsForParity}
 use Rattle.hda_run.specs.WholeRuns.{IsOfWholeRun, EndsWholeRun, HasWholeRun}
 use Rattle.hda_run.specs.Alone.{AreLast, IsRunAlone, HaltsNowhere, IsHalt}
 use Rattle.hda_run.specs.Headline.{TellsTruth, IsTrueOfBest}
-use Rattle.hda_run.specs.Problems.{Problem, task_in}
+use Rattle.hda_run.specs.Jobs.{JobModel, task_in}
 use Rattle.hda_run.specs.Laws.{BoundsSpendTheLimit, BoundTruthsAreBelow, HaltsAreDue, OptimalTruthsAgree, OutcomesAreOfTheirSteps, QuietRunsHaveNoHalt, RunsAloneStop, TrueBoundsHaveProofs, TrueRowsProve, TrueRowsProveBounds, UnsolvableTruthsHaveNoPlan}
 use Rattle.hda_run.proofs.AloneLemmas.{Made}
 
@@ -87,7 +87,7 @@ module _ (job : Job) (w : WorldState) (is : IsJob job) (run : IsRunAlone job w) 
 
 -- a bound that the outcome names was not cut
 abbrev pub IsUncut : Outcome → Type 0
-IsUncut outcome = (bound : ℕ) (best : Option (ℕ × Vec Move Global)) (cause : Cause) (rows : Option (Vec (Position × ℕ) Global)) → outcome ≡ outcomes.Bounded bound best cause rows → (cause ≢ Cut) × (cause ≢ Start)
+IsUncut outcome = (bound : ℕ) (best : Option (ℕ × Vec Move Global)) (cause : Cause) (rows : Option (Vec (BoardModel × ℕ) Global)) → outcome ≡ outcomes.Bounded bound best cause rows → (cause ≢ Cut) × (cause ≢ Start)
 
 -- none of a whole run was
 pub outcome_kept : (result : Result Outcome OutOfMemory) → IfOk result HasWholeRun → IfOk result IsUncut
@@ -101,14 +101,14 @@ decided true decides = inl (decides.0 refl)
 decided false decides = inr (not_from_Decides false decides refl)
 
 -- two boards are of one class, or they are not
-pub one_class : (b q : Position) → SameClass b q ⊎ (¬ SameClass b q)
+pub one_class : (b q : BoardModel) → SameClass b q ⊎ (¬ SameClass b q)
 one_class b q =
     let left = (inversions b.tiles + inversions q.tiles) % 2 in
     let right = taxicab b.grid (blank_of b) (blank_of q) % 2 in
     decided (left == right) (Decides-eqb left right)
 
 -- those that are not told apart are of one
-pub not_apart : (b q : Position) (apart : Bool) → (IsTrue apart ↔ (¬ SameClass b q)) → apart ≡ false → SameClass b q
+pub not_apart : (b q : BoardModel) (apart : Bool) → (IsTrue apart ↔ (¬ SameClass b q)) → apart ≡ false → SameClass b q
 not_apart b q apart tells same = by_class (one_class b q)
   where
     by_class : SameClass b q ⊎ (¬ SameClass b q) → SameClass b q
@@ -134,19 +134,19 @@ module _ {X : Type 0} (answers : Task → X → Type 0) (parity : X) (for_parity
 
 -- ---- an outcome that answers a task tells the truth
 
-best_leads : (p : Problem) (bound : ℕ) (best : Option (ℕ × List Move)) → IsBestPlan (task_in p) bound best → IsTrueOfBest p best
+best_leads : (p : JobModel) (bound : ℕ) (best : Option (ℕ × List Move)) → IsBestPlan (task_in p) bound best → IsTrueOfBest p best
 best_leads p bound None is = tt
 best_leads p bound (Some best) is = is.0
 
-pub truth : (p : Problem) (outcome : Outcome) → Answers (task_in p) outcome → TellsTruth p outcome
+pub truth : (p : JobModel) (outcome : Outcome) → Answers (task_in p) outcome → TellsTruth p outcome
 truth p (Optimal cost plan rows) answers = (answers.0, answers.1.none_below, answers.2)
 truth p (Unsolvable why) answers = answers.0
 truth p (Bounded bound best cause (Some rows)) answers = (answers.0.0, best_leads p bound (best_of best) answers.0.3, answers.1)
 truth p (Bounded bound best cause None) answers = (answers.0.0, answers.1, answers.2)
 
 -- what answers the job of a world that comes of this job answers this one
-pub truth_of : (p p' : Problem) (outcome : Outcome) → p' ≡ p → Answers (task_in p') outcome → TellsTruth p outcome
-truth_of p p' outcome same answers = truth p outcome (subst (λ (q : Problem). Answers (task_in q) outcome) same answers)
+pub truth_of : (p p' : JobModel) (outcome : Outcome) → p' ≡ p → Answers (task_in p') outcome → TellsTruth p outcome
+truth_of p p' outcome same answers = truth p outcome (subst (λ (q : JobModel). Answers (task_in q) outcome) same answers)
 
 -- ---- the laws of runs by one worker, and of what a reader may believe: one worker alone
 
@@ -205,7 +205,7 @@ bounded p c bound plan rows best cause None one other = other.0 plan.items c one
 pub unsolvable : UnsolvableTruthsHaveNoPlan
 unsolvable p why none = ((λ cost plan rows told. none plan.items cost told.0), beside)
   where
-    beside : (bound cost : ℕ) (plan : Vec Move Global) (cause : Cause) (rows : Option (Vec (Position × ℕ) Global)) → ¬ TellsTruth p (Bounded bound (Some (cost, plan)) cause rows)
+    beside : (bound cost : ℕ) (plan : Vec Move Global) (cause : Cause) (rows : Option (Vec (BoardModel × ℕ) Global)) → ¬ TellsTruth p (Bounded bound (Some (cost, plan)) cause rows)
     beside bound cost plan cause (Some rows) told = none plan.items cost told.1
     beside bound cost plan cause None told = let e : ◌≡◌ {A = Option (ℕ × Vec Move Global)} (Some (cost, plan)) None = told.1.0 in absurd (cc)
 

@@ -6,10 +6,10 @@ use Rattle.std.proofs.lemmas.Bool.{cases_lt}
 use Rattle.std.proofs.lemmas.Option.{none-some, slice_get_within, slice_get_read, slice_get-map, get_or_from_slice_get}
 use Rattle.std.proofs.lemmas.List.{length-map}
 use Rattle.std.proofs.lemmas.List.Elements.{Contains-get_or}
-use Rattle.board.specs.CostRules.{CostRule}
-use Rattle.board.specs.Grids.{Grid}
-use Rattle.board.specs.Positions.{Position}
-use Rattle.lower_bound.specs.Tables.{Tables}
+use Rattle.board.specs.Weights.{WeightsModel}
+use Rattle.board.specs.Shapes.{ShapeModel}
+use Rattle.board.specs.Boards.{BoardModel}
+use Rattle.lower_bound.specs.Tables.{BoundModel}
 use Rattle.outcomes.specs.Outcomes.{Task}
 use Rattle.world_model.specs.declared.parts.Item.{Item}
 use Rattle.world_model.specs.Shapes.{IsShaped}
@@ -21,7 +21,7 @@ use Rattle.world_ends.specs.Lowest.{IsLeastBeside, IsLowestInLanes, AreItemsOn}
 use Rattle.world_ends.specs.Parts.{HasParts, states_of}
 use Rattle.world_ends.proofs.PartLemmas.{beside_none, beside_both, beside_same, beside_nothing, least_same}
 use Rattle.hda_run.specs.Lanes.{IsOfOne, IsInLanes}
-use Rattle.hda_run.specs.Problems.{Problem, task_in}
+use Rattle.hda_run.specs.Jobs.{JobModel, task_in}
 use Rattle.hda_run.specs.Worlds.{world_of, IsLawful}
 use Rattle.hda_run.specs.declared.parts.Parts.{Parts}
 use Rattle.hda_run.proofs.PartsLemmas.{W}
@@ -71,7 +71,7 @@ pub place_of : {A : Type 0} (xs : List A) (x : A) → Contains xs x → (i : ℕ
 place_of xs x has = (has.0, slice_get_read xs (length xs) has.0 x refl has.1 (sym has.2))
 
 -- the items in the lanes of a shaped world are of its boards
-pub items_in_lanes : (w : WorldState) (rows : List (Vec Lane Global)) (grid : Grid) → IsShaped w → lanes_in rows ≡ w.lanes → grid ≡ w.task.goal.grid
+pub items_in_lanes : (w : WorldState) (rows : List (Vec Lane Global)) (grid : ShapeModel) → IsShaped w → lanes_in rows ≡ w.lanes → grid ≡ w.task.goal.grid
     → (to_each : Vec Lane Global) (lane : Lane) (packet : Packet) → Contains rows to_each → Contains to_each.items lane → Contains lane packet → AreItemsOn grid packet
 items_in_lanes w rows grid shaped same sides to_each lane packet has_row has_lane has_packet =
     let row = place_of rows to_each has_row in
@@ -82,7 +82,7 @@ items_in_lanes w rows grid shaped same sides to_each lane packet has_row has_lan
     λ item has. let good = are.1.items item has in (good.0.1 ∙ sym sides, good.2)
 
 -- the least cost plus sum of what lies in a world's lanes
-pub lowest_is : (w : WorldState) (rows : List (Vec Lane Global)) (sum : Position → ℕ) (lowest : Option ℕ) → lanes_in rows ≡ w.lanes → sum ≡ w.task.sum
+pub lowest_is : (w : WorldState) (rows : List (Vec Lane Global)) (sum : BoardModel → ℕ) (lowest : Option ℕ) → lanes_in rows ≡ w.lanes → sum ≡ w.task.sum
     → IsLeastBeside (IsOfOne (λ (to_each : Vec Lane Global). IsInLanes sum to_each.items) rows) None lowest → IsLowestInLanes w lowest
 lowest_is w rows sum lowest same sums least =
     least_same (IsOfOne (λ (to_each : Vec Lane Global). IsInLanes sum to_each.items) rows) (λ f. (to : ℕ) × (item : Item) × HasInLaneTo w to item × (f ≡ item.cost + w.task.sum item.board))
@@ -92,21 +92,21 @@ lowest_is w rows sum lowest same sums least =
     let packet = most.1 in let of_item = most.3 in
     let sender : slice_get w.lanes from ≡ Some to_each.items = subst (λ (lanes : List (List Lane)). slice_get lanes from ≡ Some to_each.items) same (map_at (λ (v : Vec Lane Global). v.items) rows from to_each p.2) in
     let lies : LiesIn w from to packet = record { lane = lane; is = record { from_lanes = to_each.items; of_sender = sender; of_receiver = inner.2 }; lies = one_of lane most.0 packet most.2 } in
-    (to, of_item.0, (from, packet, lies, of_item.1), subst (λ (s : Position → ℕ). f ≡ of_item.0.cost + s of_item.0.board) sums of_item.2))
+    (to, of_item.0, (from, packet, lies, of_item.1), subst (λ (s : BoardModel → ℕ). f ≡ of_item.0.cost + s of_item.0.board) sums of_item.2))
     (λ f p.
     let item = p.1 in let lying = p.2 in
     let lies = lying.2 in
     let row = mapped_at (λ (v : Vec Lane Global). v.items) rows lying.0 lies.is.from_lanes (subst (λ (lanes : List (List Lane)). slice_get lanes lying.0 ≡ Some lies.is.from_lanes) (sym same) lies.is.of_sender) in
     let place = place_of lies.lane lying.1 lies.lies in
-    (lying.0, row.0, row.1, (p.0, lies.lane, subst (λ (lanes : List Lane). slice_get lanes p.0 ≡ Some lies.lane) (sym row.2) lies.is.of_receiver, (place.0, lying.1, place.1, (item, lying.3, subst (λ (s : Position → ℕ). f ≡ item.cost + s item.board) (sym sums) p.3)))))
+    (lying.0, row.0, row.1, (p.0, lies.lane, subst (λ (lanes : List Lane). slice_get lanes p.0 ≡ Some lies.lane) (sym row.2) lies.is.of_receiver, (place.0, lying.1, place.1, (item, lying.3, subst (λ (s : BoardModel → ℕ). f ≡ item.cost + s item.board) (sym sums) p.3)))))
     lowest (beside_nothing (IsOfOne (λ (to_each : Vec Lane Global). IsInLanes sum to_each.items) rows) lowest least)
 
 -- one task of the same four
-pub same_task : (p : Problem) (start goal : Position) (rule : CostRule) (tables : Tables) → start ≡ p.start → goal ≡ p.goal → rule ≡ p.rule → tables ≡ p.tables → task_of start goal rule tables ≡ task_in p
+pub same_task : (p : JobModel) (start goal : BoardModel) (rule : WeightsModel) (tables : BoundModel) → start ≡ p.start → goal ≡ p.goal → rule ≡ p.rule → tables ≡ p.tables → task_of start goal rule tables ≡ task_in p
 same_task p start goal rule tables e f g h = λ i. task_of (e i) (f i) (g i) (h i)
 
 -- so the world of the parts is one in which it is asked
-pub has_parts : {S : Type 0} (owner_of : S → ℕ → Position → ℕ) (parts : Parts S) (task : Task) (workers : List W) → task ≡ task_in parts.job → workers ≡ parts.workers.items → IsLawful owner_of parts → HasParts task (owner_of parts.owners.now) (states_of workers) (world_of owner_of parts)
+pub has_parts : {S : Type 0} (owner_of : S → ℕ → BoardModel → ℕ) (parts : Parts S) (task : Task) (workers : List W) → task ≡ task_in parts.job → workers ≡ parts.workers.items → IsLawful owner_of parts → HasParts task (owner_of parts.owners.now) (states_of workers) (world_of owner_of parts)
 has_parts owner_of parts task workers same are lawful = record {
   asks = sym same;
   owns = λ b. ap (λ (n : ℕ). owner_of parts.owners.now n b) (ap (λ (ws : List W). length ws) (sym are) ∙ sym (length-map workers (λ (worker : W). state_of worker)));

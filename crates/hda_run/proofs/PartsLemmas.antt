@@ -9,7 +9,7 @@ use Rattle.std.proofs.lemmas.List.{map-set, length-map, length-set, map-append, 
 use Rattle.std.proofs.lemmas.List.Elements.{All-set, All-append}
 use Rattle.std.specs.Ordering.{nat_cmp}
 use Rattle.search_keys.specs.SearchKeys.{search_key}
-use Rattle.board.specs.Positions.{Position}
+use Rattle.board.specs.Boards.{BoardModel}
 use Rattle.board.specs.declared.moves.Move.{Move}
 use Rattle.owners.specs.Owners.{AreWorkers}
 use Rattle.outcomes.specs.Outcomes.{Task}
@@ -32,9 +32,9 @@ use Rattle.world_model.specs.declared.parts.Known.{Known}
 use Rattle.world_model.specs.Knowledge.{Knowledge, is_news, relaxation}
 use Rattle.world_model.specs.Laws.{OpeningsAreSound}
 use Rattle.world_model.specs.Openings.{Job, IsJob, idle_worker, first_worker, opening}
-use Rattle.search_lists.specs.Lists.{Lists}
+use Rattle.search_lists.specs.Lists.{SearchListsModel}
 use Rattle.message_ledger.specs.declared.plain.Plain.{Plain}
-use Rattle.message_ledger.specs.Spending.{Spending, spent}
+use Rattle.message_ledger.specs.Spending.{AllowanceModel, spent}
 use Rattle.worker_core.specs.declared.worker.Worker.{Worker}
 use Rattle.worker_core.specs.declared.expanding.Successors.{Successors}
 use Rattle.worker_core.specs.declared.expanding.Successors.TheVariants.{All as Whole, Onward}
@@ -45,7 +45,7 @@ use Rattle.worker_core.specs.Serving.{Serves, StaysGuided}
 use Rattle.worker_core.specs.Workers.{state_of, with_book, at_lane}
 use Rattle.hda_run.specs.declared.parts.Parts.{Parts}
 use Rattle.hda_run.specs.Kinds.{Lacks}
-use Rattle.hda_run.specs.Problems.{context_in, task_in, Problem}
+use Rattle.hda_run.specs.Jobs.{context_in, task_in, JobModel}
 use Rattle.hda_run.specs.Worlds.{world_of, AreGuided, job_of, IsLawful, IsWorkerCount}
 
 -- ---- what the parts of a world are, and what the world is after one of them has changed
@@ -73,12 +73,12 @@ seen_at f [] i x lt is = absurd (omega (arith, lt))
 seen_at f (y ∷ xs) zero x lt is = ap (λ z. Some (f z)) (sym is)
 seen_at f (y ∷ xs) (suc i) x lt is = seen_at f xs i x (omega (arith, lt)) is
 
-module _ {S : Type 0} (owner_of : S → ℕ → Position → ℕ) (parts : Parts S) where
+module _ {S : Type 0} (owner_of : S → ℕ → BoardModel → ℕ) (parts : Parts S) where
   -- as many states as workers
   pub state_count : length (world_of owner_of parts).workers ≡ length parts.workers.items
   state_count = length-map parts.workers.items (λ (w : W). state_of w)
 
-module _ {S : Type 0} (owner_of : S → ℕ → Position → ℕ) (parts : Parts S) (me : ℕ) (worker : W) (within : me < length parts.workers.items) (at : worker ≡ get_or parts.workers.items me worker) where
+module _ {S : Type 0} (owner_of : S → ℕ → BoardModel → ℕ) (parts : Parts S) (me : ℕ) (worker : W) (within : me < length parts.workers.items) (at : worker ≡ get_or parts.workers.items me worker) where
   pub is_worker : IsWorker (world_of owner_of parts) me (state_of worker)
   is_worker = seen_at (λ (w : W). state_of w) parts.workers.items me worker within at
 
@@ -101,7 +101,7 @@ module _ {S : Type 0} (owner_of : S → ℕ → Position → ℕ) (parts : Parts
 
   -- ---- guided lists
 
-  abbrev Leads : Lists → Type 0
+  abbrev Leads : SearchListsModel → Type 0
   Leads lists = IsGuided (task_in parts.job) (guide_of (task_in parts.job)) lists
 
   pub is_guided : AreGuided parts → Leads worker.lists
@@ -138,7 +138,7 @@ module _ {S : Type 0} (owner_of : S → ℕ → Position → ℕ) (parts : Parts
   floor_there shaped = let n = shaped.floors ∙ state_count owner_of parts in omega (arith, n, within)
 
   -- the only worker owns each board
-  owned_alone : IsShaped (world_of owner_of parts) → length parts.workers.items ≡ 1 → (b : Position) → (world_of owner_of parts).owner b ≡ me
+  owned_alone : IsShaped (world_of owner_of parts) → length parts.workers.items ≡ 1 → (b : BoardModel) → (world_of owner_of parts).owner b ≡ me
   owned_alone shaped alone b =
       let owned = shaped.owners b in
       let count = state_count owner_of parts in
@@ -170,7 +170,7 @@ module _ {S : Type 0} (owner_of : S → ℕ → Position → ℕ) (parts : Parts
   whole_step shaped sound law Onward alone answer after step =
       law (role_of (world_of owner_of parts) me) (turn (state_of worker) answer after) shaped.task.costs (owned_alone shaped (alone refl)) (were_reached shaped sound (alone refl)) step
 
-  pub owner_is : IsShaped (world_of owner_of parts) → (b : Position) → (world_of owner_of parts).owner b ≡ owner_of parts.owners.now (length worker.unsent.items) b
+  pub owner_is : IsShaped (world_of owner_of parts) → (b : BoardModel) → (world_of owner_of parts).owner b ≡ owner_of parts.owners.now (length worker.unsent.items) b
   owner_is shaped b = ap (λ (k : ℕ). owner_of parts.owners.now k b) (sym (unsent_count shaped))
 
   -- ---- what the worker's steps are lent
@@ -202,7 +202,7 @@ there [] i x lt is = absurd (omega (arith, lt))
 there (y ∷ xs) zero x lt is = ap Some (sym is)
 there (y ∷ xs) (suc i) x lt is = there xs i x (omega (arith, lt)) is
 
-module _ {S : Type 0} (owner_of : S → ℕ → Position → ℕ) (parts : Parts S) where
+module _ {S : Type 0} (owner_of : S → ℕ → BoardModel → ℕ) (parts : Parts S) where
   -- as many rows of lanes as workers
   pub row_count : IsShaped (world_of owner_of parts) → length parts.lanes.items ≡ length parts.workers.items
   row_count shaped = sym (length-map parts.lanes.items (λ (row : Row). row.items)) ∙ shaped.senders ∙ state_count owner_of parts
@@ -213,7 +213,7 @@ module _ {S : Type 0} (owner_of : S → ℕ → Position → ℕ) (parts : Parts
   are_two from to other low high (inr (inl past)) = let n = state_count owner_of parts in omega (arith, past, n, low)
   are_two from to other low high (inr (inr past)) = let n = state_count owner_of parts in omega (arith, past, n, high)
 
-module _ {S : Type 0} (owner_of : S → ℕ → Position → ℕ) (parts : Parts S) (from to : ℕ) (row : Row) (row_in : from < length parts.lanes.items) (row_at : row ≡ get_or parts.lanes.items from row) where
+module _ {S : Type 0} (owner_of : S → ℕ → BoardModel → ℕ) (parts : Parts S) (from to : ℕ) (row : Row) (row_in : from < length parts.lanes.items) (row_at : row ≡ get_or parts.lanes.items from row) where
   of_sender : slice_get (world_of owner_of parts).lanes from ≡ Some row.items
   of_sender = seen_at (λ (r : Row). r.items) parts.lanes.items from row row_in row_at
 
@@ -246,7 +246,7 @@ module _ {S : Type 0} (owner_of : S → ℕ → Position → ℕ) (parts : Parts
 -- ---- the workers of an opening world
 
 -- a worker to which nothing was granted yet, and what it has in its purse
-pub begins : (n purse amount : ℕ) (allowance : Spending) (state : WorkerState) → purse ≡ amount → allowance ≡ record { granted = 0; left = 0 } → state ≡ record (idle_worker n) { purse = purse; allowance = allowance.left; expansions = spent allowance } → state ≡ record (idle_worker n) { purse = amount }
+pub begins : (n purse amount : ℕ) (allowance : AllowanceModel) (state : WorkerState) → purse ≡ amount → allowance ≡ record { granted = 0; left = 0 } → state ≡ record (idle_worker n) { purse = purse; allowance = allowance.left; expansions = spent allowance } → state ≡ record (idle_worker n) { purse = amount }
 begins n purse amount allowance state has none is =
     is ∙ (λ t. record (idle_worker n) { purse = has t; allowance = (none t).left; expansions = spent (none t) })
 
@@ -288,7 +288,7 @@ first_is n task worker state item free board begun is =
 pub made_count : (n : ℕ) (all : List W) → map (λ (w : W). state_of w) all ≡ replicate n (idle_worker n) → length all ≡ n
 made_count n all states = sym (length-map all (λ (w : W). state_of w)) ∙ ap length states ∙ length-replicate n (idle_worker n)
 
-pub opens : {S : Type 0} (owner_of : S → ℕ → Position → ℕ) (parts : Parts S) (n : ℕ) (state : WorkerState) (owner : ℕ) (via : Move) → map (λ (w : W). state_of w) parts.workers.items ≡ slice_set (replicate n (idle_worker n)) owner state → state ≡ first_worker n (task_in parts.job) via → owner ≡ owner_of parts.owners.now n parts.job.start → parts.book ≡ (opening (job_of owner_of parts.job parts.owners.now n) via).book → map (λ (row : Row). row.items) parts.lanes.items ≡ replicate n (replicate n []) → world_of owner_of parts ≡ opening (job_of owner_of parts.job parts.owners.now n) via
+pub opens : {S : Type 0} (owner_of : S → ℕ → BoardModel → ℕ) (parts : Parts S) (n : ℕ) (state : WorkerState) (owner : ℕ) (via : Move) → map (λ (w : W). state_of w) parts.workers.items ≡ slice_set (replicate n (idle_worker n)) owner state → state ≡ first_worker n (task_in parts.job) via → owner ≡ owner_of parts.owners.now n parts.job.start → parts.book ≡ (opening (job_of owner_of parts.job parts.owners.now n) via).book → map (λ (row : Row). row.items) parts.lanes.items ≡ replicate n (replicate n []) → world_of owner_of parts ≡ opening (job_of owner_of parts.job parts.owners.now n) via
 opens owner_of parts n state owner via states first_state owner_is book_is lanes_are =
     let all = parts.workers.items in
     let count : length all ≡ n = sym (length-map all (λ (w : W). state_of w)) ∙ ap length states ∙ length-set (replicate n (idle_worker n)) owner state ∙ length-replicate n (idle_worker n) in
@@ -303,7 +303,7 @@ opens owner_of parts n state owner via states first_state owner_is book_is lanes
     }
 
 -- parts that make an opening world are lawful
-pub lawful_opening : {S : Type 0} (owner_of : S → ℕ → Position → ℕ) (parts : Parts S) (job : Job) (via : Move) → OpeningsAreSound → IsJob job → world_of owner_of parts ≡ opening job via → AreGuided parts → IsLawful owner_of parts
+pub lawful_opening : {S : Type 0} (owner_of : S → ℕ → BoardModel → ℕ) (parts : Parts S) (job : Job) (via : Move) → OpeningsAreSound → IsJob job → world_of owner_of parts ≡ opening job via → AreGuided parts → IsLawful owner_of parts
 lawful_opening owner_of parts job via law is same guided =
     let facts = law job via is in
     let back = sym same in
@@ -315,5 +315,5 @@ lawful_opening owner_of parts job via law is same guided =
     }
 
 -- so many workers, some but not too many, have a job where the task is one
-pub is_job : {S : Type 0} (owner_of : S → ℕ → Position → ℕ) → AreWorkers owner_of → (owners : S) (p : Problem) (n : ℕ) → IsTask (task_in p) → IsWorkerCount n → IsJob (job_of owner_of p owners n)
+pub is_job : {S : Type 0} (owner_of : S → ℕ → BoardModel → ℕ) → AreWorkers owner_of → (owners : S) (p : JobModel) (n : ℕ) → IsTask (task_in p) → IsWorkerCount n → IsJob (job_of owner_of p owners n)
 is_job owner_of are_workers owners p n task count = record { task = task; some = count.0; few = count.1; owners = λ b. are_workers owners n b count.0 }

@@ -2,7 +2,7 @@
 use Rattle.std.specs.Prelude.{ℕ, ◌≡◌, ◌≤◌, ⊤, List, [], ◌∷◌, ◌++◌, All, Option, Some, None}
 use Rattle.memory.specs.declared.OutOfMemory.{OutOfMemory}
 use Rattle.board.specs.declared.moves.Move.{Move}
-use Rattle.board.specs.Positions.{Position}
+use Rattle.board.specs.Boards.{BoardModel}
 use Rattle.outcomes.specs.declared.outcome.Outcome.{Outcome}
 use Rattle.outcomes.specs.declared.outcome.Want.TheVariants.{Refused}
 use Rattle.world_model.specs.declared.steps.HaltCause.TheVariants as causes
@@ -17,7 +17,7 @@ use Rattle.world_model.specs.Openings.{Job, opening}
 use Rattle.world_model.specs.Outcomes.{IsGiven}
 use Rattle.world_model.specs.Steps.{IsRun}
 use Rattle.world_model.specs.Worlds.{WorldState}
-use Rattle.hda_run.specs.Problems.{Problem}
+use Rattle.hda_run.specs.Jobs.{JobModel}
 use Rattle.hda_run.specs.Worlds.{job_of}
 
 -- the step is to halt the run
@@ -59,9 +59,9 @@ pub record IsRunAlone (job : Job) (w : WorldState) : Type 0 where
   pub spent : w.book.stop ≡ Some stops.Limit → expansion_count w ≡ job.limit
 
 -- the answer is one that the world of such a run by one worker gives
-abbrev pub IsFoundAlone : {S X : Type 0} → (WorldState → X → Type 0) → (S → ℕ → Position → ℕ) → Problem → S → X → Type 0
+abbrev pub IsFoundAlone : {S X : Type 0} → (WorldState → X → Type 0) → (S → ℕ → BoardModel → ℕ) → JobModel → S → X → Type 0
 IsFoundAlone gives owner_of p owners answer = (w : WorldState) × IsRunAlone (job_of owner_of p owners 1) w × gives w answer
 
 -- the outcome is one that such a world gives
-abbrev pub IsByOne : {S : Type 0} → (S → ℕ → Position → ℕ) → Problem → S → Outcome → Type 0
+abbrev pub IsByOne : {S : Type 0} → (S → ℕ → BoardModel → ℕ) → JobModel → S → Outcome → Type 0
 IsByOne owner_of p owners outcome = IsFoundAlone IsGiven owner_of p owners outcome

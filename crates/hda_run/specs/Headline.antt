@@ -11,25 +11,25 @@ use Rattle.world_model.specs.Openings.{Job, opening}
 use Rattle.world_model.specs.Outcomes.{IsGiven}
 use Rattle.world_model.specs.Steps.{IsRun}
 use Rattle.world_model.specs.Worlds.{WorldState}
-use Rattle.hda_run.specs.Problems.{Problem, task_in}
+use Rattle.hda_run.specs.Jobs.{JobModel, task_in}
 
 -- the moves of the plan take the start to the goal, and their costs add up to this
-abbrev pub Solves : Problem → List Move → ℕ → Type 0
+abbrev pub Solves : JobModel → List Move → ℕ → Type 0
 Solves p plan cost = Leads p.rule p.start plan p.goal cost
 
 -- no plan costs less
-abbrev pub NoneIsBelow : Problem → ℕ → Type 0
+abbrev pub NoneIsBelow : JobModel → ℕ → Type 0
 NoneIsBelow p bound = (plan : List Move) (cost : ℕ) → Solves p plan cost → bound ≤ cost
 
 -- the plan beside a bound, if there is one, leads to the goal at its cost
-abbrev pub IsTrueOfBest : Problem → Option (ℕ × List Move) → Type 0
+abbrev pub IsTrueOfBest : JobModel → Option (ℕ × List Move) → Type 0
 IsTrueOfBest p None = ⊤
 IsTrueOfBest p (Some best) = Solves p best.1 best.0
 
 -- What an outcome says is true. Optimal: the plan leads from the start to the goal at this cost, each plan that does costs at least as
 -- much, and the rows prove that by themselves. Unsolvable: no plan leads there. Bounded: no plan costs less than the bound, the plan
 -- beside it is one, and the rows prove the bound by themselves; where memory was refused it has neither, though such rows exist.
-abbrev pub TellsTruth : Problem → Outcome → Type 0
+abbrev pub TellsTruth : JobModel → Outcome → Type 0
 TellsTruth p (Optimal cost plan rows) = Solves p plan.items cost × NoneIsBelow p cost × AreRowsOf (task_in p) rows.items cost
 TellsTruth p (Unsolvable why) = (plan : List Move) (cost : ℕ) → ¬ Solves p plan cost
 TellsTruth p (Bounded bound best cause (Some rows)) = NoneIsBelow p bound × IsTrueOfBest p (best_of best) × AreRowsOf (task_in p) rows.items bound

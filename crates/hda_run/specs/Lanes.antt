@@ -1,6 +1,6 @@
 -- The cost plus sum of items in lanes.
 use Rattle.std.specs.Prelude.{ℕ, ◌≡◌, List, Some, slice_get}
-use Rattle.board.specs.Positions.{Position}
+use Rattle.board.specs.Boards.{BoardModel}
 use Rattle.world_model.specs.Workers.{Lane}
 use Rattle.world_ends.specs.Lowest.{IsOfItem}
 
@@ -9,9 +9,9 @@ abbrev pub IsOfOne : {A : Type 0} → (A → ℕ → Type 0) → List A → ℕ 
 IsOfOne {A} IsOf xs f = (i : ℕ) × (x : A) × (slice_get xs i ≡ Some x) × IsOf x f
 
 -- the cost plus sum of an item in the lane
-abbrev pub IsInLane : (Position → ℕ) → Lane → ℕ → Type 0
+abbrev pub IsInLane : (BoardModel → ℕ) → Lane → ℕ → Type 0
 IsInLane sum lane f = IsOfOne (IsOfItem sum) lane f
 
 -- the cost plus sum of an item in one of these lanes
-abbrev pub IsInLanes : (Position → ℕ) → List Lane → ℕ → Type 0
+abbrev pub IsInLanes : (BoardModel → ℕ) → List Lane → ℕ → Type 0
 IsInLanes sum lanes f = IsOfOne (IsInLane sum) lanes f

@@ -4,7 +4,7 @@ use Rattle.std.specs.declared.alloc.Global.{Global}
 use Rattle.memory.specs.declared.OutOfMemory.{OutOfMemory}
 use Rattle.board.specs.declared.moves.Move.{Move}
 use Rattle.board.specs.Plans.{Leads}
-use Rattle.board.specs.Positions.{Position}
+use Rattle.board.specs.Boards.{BoardModel}
 use Rattle.board.specs.Rows.{Proves}
 use Rattle.outcomes.specs.declared.outcome.Cause.{Cause}
 use Rattle.outcomes.specs.declared.outcome.Cause.TheVariants.{Limit as ForLimit}
@@ -19,7 +19,7 @@ use Rattle.world_model.specs.declared.steps.Refusal.TheVariants as refusals
 use Rattle.world_model.specs.declared.steps.Step.{Step}
 use Rattle.world_model.specs.declared.steps.Step.TheVariants.{Expand, Grant, Halt}
 use Rattle.world_model.specs.declared.steps.Stop.TheVariants as stops
-use Rattle.search_lists.specs.Lists.{Lists}
+use Rattle.search_lists.specs.Lists.{SearchListsModel}
 use Rattle.world_model.specs.declared.parts.Known.{Known}
 use Rattle.world_model.specs.Credit.{expansion_count}
 use Rattle.world_model.specs.Frontiers.{IsInFrontier}
@@ -30,8 +30,8 @@ use Rattle.world_model.specs.Turns.{turn}
 use Rattle.world_model.specs.Worlds.{WorldState, Knows}
 use Rattle.hda_run.specs.Alone.{IsRunAlone}
 use Rattle.hda_run.specs.Headline.{IsOfSteps, TellsTruth}
-use Rattle.hda_run.specs.Problems.{Problem, task_in}
-use Rattle.hda_run.specs.Rounds.{IsBoundOf, IsWithoutBound}
+use Rattle.hda_run.specs.Jobs.{JobModel, task_in}
+use Rattle.hda_run.specs.Rounds.{IsBoundSoFar, IsWithoutBound}
 use Rattle.hda_run.specs.Worlds.{world_of, job_of, WaitsFrom}
 use Rattle.hda_run.specs.declared.parts.Parts.{Parts}
 
@@ -39,23 +39,23 @@ use Rattle.hda_run.specs.declared.parts.Parts.{Parts}
 
 -- where no bound is told though a board is open, the goal is known
 abbrev pub WithoutABoundTheGoalIsKnown : Type 0
-WithoutABoundTheGoalIsKnown = (w : WorldState) (b : Position) (cost : ℕ) → IsWithoutBound w → IsInFrontier w b cost → (known : Known) × Knows w 0 w.task.goal known
+WithoutABoundTheGoalIsKnown = (w : WorldState) (b : BoardModel) (cost : ℕ) → IsWithoutBound w → IsInFrontier w b cost → (known : Known) × Knows w 0 w.task.goal known
 
 -- something waits at that f, and nothing below it
 abbrev pub WaitingBeginsThere : Type 0
 WaitingBeginsThere =
-    (lists : Lists) (f : ℕ)
+    (lists : SearchListsModel) (f : ℕ)
     → WaitsFrom lists f
     → (slice_index_or lists.waiting.entries f [] ≢ [])
     × ((h : ℕ) → h < f → slice_index_or lists.waiting.entries h [] ≡ [])
 
 -- No plan costs less than the bound of a world, and what waits begins there. Where there is none, the goal is known, or nothing is open.
-abbrev pub BoundsAreOfTheirWorlds : {S : Type 0} → (S → ℕ → Position → ℕ) → Type 0
+abbrev pub BoundsAreOfTheirWorlds : {S : Type 0} → (S → ℕ → BoardModel → ℕ) → Type 0
 BoundsAreOfTheirWorlds {S} owner_of =
     (parts : Parts S)
-    → ((f : ℕ) (plan : List Move) (cost : ℕ) → IsBoundOf owner_of parts (Some f) → Leads parts.job.rule parts.job.start plan parts.job.goal cost → f ≤ cost)
-    × ((f : ℕ) → IsBoundOf owner_of parts (Some f) → All (λ worker. WaitsFrom worker.lists f) parts.workers.items)
-    × (IsBoundOf owner_of parts None → IsWithoutBound (world_of owner_of parts))
+    → ((f : ℕ) (plan : List Move) (cost : ℕ) → IsBoundSoFar owner_of parts (Some f) → Leads parts.job.rule parts.job.start plan parts.job.goal cost → f ≤ cost)
+    × ((f : ℕ) → IsBoundSoFar owner_of parts (Some f) → All (λ worker. WaitsFrom worker.lists f) parts.workers.items)
+    × (IsBoundSoFar owner_of parts None → IsWithoutBound (world_of owner_of parts))
 
 -- a run by one worker has stopped, and not because a thread could not be started
 abbrev pub RunsAloneStop : Type 0
@@ -96,7 +96,7 @@ BoundsSpendTheLimit =
 -- optimal outcomes of one problem that tell the truth have one cost
 abbrev pub OptimalTruthsAgree : Type 0
 OptimalTruthsAgree =
-    (p : Problem) (c d : ℕ) (plan plan' : Vec Move Global) (rows rows' : Vec (Position × ℕ) Global)
+    (p : JobModel) (c d : ℕ) (plan plan' : Vec Move Global) (rows rows' : Vec (BoardModel × ℕ) Global)
     → TellsTruth p (Optimal c plan rows)
     → TellsTruth p (Optimal d plan' rows')
     → c ≡ d
@@ -104,7 +104,7 @@ OptimalTruthsAgree =
 -- and no bound that tells it is above that cost
 abbrev pub BoundTruthsAreBelow : Type 0
 BoundTruthsAreBelow =
-    (p : Problem) (c bound : ℕ) (plan : Vec Move Global) (rows : Vec (Position × ℕ) Global) (best : Option (ℕ × Vec Move Global)) (cause : Cause) (below : Option (Vec (Position × ℕ) Global))
+    (p : JobModel) (c bound : ℕ) (plan : Vec Move Global) (rows : Vec (BoardModel × ℕ) Global) (best : Option (ℕ × Vec Move Global)) (cause : Cause) (below : Option (Vec (BoardModel × ℕ) Global))
     → TellsTruth p (Optimal c plan rows)
     → TellsTruth p (Bounded bound best cause below)
     → bound ≤ c
@@ -112,31 +112,31 @@ BoundTruthsAreBelow =
 -- where it is true that there is no plan, no outcome that tells the truth has one
 abbrev pub UnsolvableTruthsHaveNoPlan : Type 0
 UnsolvableTruthsHaveNoPlan =
-    (p : Problem) (why : Why)
+    (p : JobModel) (why : Why)
     → TellsTruth p (Unsolvable why)
-    → ((cost : ℕ) (plan : Vec Move Global) (rows : Vec (Position × ℕ) Global) → ¬ TellsTruth p (Optimal cost plan rows))
-    × ((bound cost : ℕ) (plan : Vec Move Global) (cause : Cause) (rows : Option (Vec (Position × ℕ) Global)) → ¬ TellsTruth p (Bounded bound (Some (cost, plan)) cause rows))
+    → ((cost : ℕ) (plan : Vec Move Global) (rows : Vec (BoardModel × ℕ) Global) → ¬ TellsTruth p (Optimal cost plan rows))
+    × ((bound cost : ℕ) (plan : Vec Move Global) (cause : Cause) (rows : Option (Vec (BoardModel × ℕ) Global)) → ¬ TellsTruth p (Bounded bound (Some (cost, plan)) cause rows))
 
 -- the rows of an optimal outcome prove its cost with the sums of the problem's tables
 abbrev pub TrueRowsProve : Type 0
 TrueRowsProve =
-    (p : Problem) (cost : ℕ) (plan : Vec Move Global) (rows : Vec (Position × ℕ) Global)
+    (p : JobModel) (cost : ℕ) (plan : Vec Move Global) (rows : Vec (BoardModel × ℕ) Global)
     → TellsTruth p (Optimal cost plan rows)
     → Proves p.rule rows.items (task_in p).sum p.start p.goal cost
 
 -- and those of a bound prove the bound
 abbrev pub TrueRowsProveBounds : Type 0
 TrueRowsProveBounds =
-    (p : Problem) (bound : ℕ) (best : Option (ℕ × Vec Move Global)) (cause : Cause) (rows : Vec (Position × ℕ) Global)
+    (p : JobModel) (bound : ℕ) (best : Option (ℕ × Vec Move Global)) (cause : Cause) (rows : Vec (BoardModel × ℕ) Global)
     → TellsTruth p (Bounded bound best cause (Some rows))
     → Proves p.rule rows.items (task_in p).sum p.start p.goal bound
 
 -- where a bound has no rows, others prove it
 abbrev pub TrueBoundsHaveProofs : Type 0
 TrueBoundsHaveProofs =
-    (p : Problem) (bound : ℕ) (best : Option (ℕ × Vec Move Global)) (cause : Cause)
+    (p : JobModel) (bound : ℕ) (best : Option (ℕ × Vec Move Global)) (cause : Cause)
     → TellsTruth p (Bounded bound best cause None)
-    → (rows : List (Position × ℕ)) × Proves p.rule rows (task_in p).sum p.start p.goal bound
+    → (rows : List (BoardModel × ℕ)) × Proves p.rule rows (task_in p).sum p.start p.goal bound
 
 -- the outcome of one step is given by a world to which just that step leads, with some answer, from the opening one
 abbrev pub OutcomesAreOfTheirSteps : Type 0
@@ -148,17 +148,17 @@ OutcomesAreOfTheirSteps =
 -- ---- worlds as asked
 
 -- the opening world of n workers has the problem's task and limit, and lanes between n workers, among whom the spread says who owns a board
-abbrev pub OpeningsAreAsAsked : {S : Type 0} → (S → ℕ → Position → ℕ) → Type 0
+abbrev pub OpeningsAreAsAsked : {S : Type 0} → (S → ℕ → BoardModel → ℕ) → Type 0
 OpeningsAreAsAsked {S} owner_of =
-    (p : Problem) (spread : S) (n : ℕ) (via : Move)
+    (p : JobModel) (spread : S) (n : ℕ) (via : Move)
     → ((opening (job_of owner_of p spread n) via).task ≡ task_in p)
     × ((opening (job_of owner_of p spread n) via).book.limit ≡ p.limit)
     × ((opening (job_of owner_of p spread n) via).lanes ≡ replicate n (replicate n []))
-    × ((b : Position) → (opening (job_of owner_of p spread n) via).owner b ≡ owner_of spread n b)
+    × ((b : BoardModel) → (opening (job_of owner_of p spread n) via).owner b ≡ owner_of spread n b)
 
 -- the world that parts make has their task, and boards are owned as their spread says among all their workers
-abbrev pub PartsAreAsOwned : {S : Type 0} → (S → ℕ → Position → ℕ) → Type 0
+abbrev pub PartsAreAsOwned : {S : Type 0} → (S → ℕ → BoardModel → ℕ) → Type 0
 PartsAreAsOwned {S} owner_of =
     (parts : Parts S)
     → ((world_of owner_of parts).task ≡ task_in parts.job)
-    × ((b : Position) → (world_of owner_of parts).owner b ≡ owner_of parts.owners.now (length parts.workers.items) b)
+    × ((b : BoardModel) → (world_of owner_of parts).owner b ≡ owner_of parts.owners.now (length parts.workers.items) b)

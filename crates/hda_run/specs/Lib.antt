@@ -1,7 +1,7 @@
 -- Worlds of workers that run.
 pub mod Faults
 pub mod Lanes
-pub mod Problems
+pub mod Jobs
 pub mod Worlds
 pub mod Kinds
 pub mod Headline

@@ -1,6 +1,6 @@
 -- What one worker does alone, round by round.
 use Rattle.std.specs.Prelude.{ℕ, ◌≡◌, ◌⊎◌, ◌+◌, ◌-◌, List, [], ◌∷◌, ◌++◌, Option, Some, None, All}
-use Rattle.board.specs.Positions.{Position}
+use Rattle.board.specs.Boards.{BoardModel}
 use Rattle.world_model.specs.declared.parts.Known.{Known}
 use Rattle.world_model.specs.declared.steps.Refusal.{Refusal}
 use Rattle.world_model.specs.declared.steps.Refusal.TheVariants as refusals
@@ -41,26 +41,26 @@ pub record Reaches (w w' : WorldState) : Type 0 where
 
 -- the worker knows the goal, or there is no frontier
 abbrev pub IsWithoutBound : WorldState → Type 0
-IsWithoutBound w = ((known : Known) × Knows w 0 w.task.goal known) ⊎ ((b : Position) (cost : ℕ) → ¬ IsInFrontier w b cost)
+IsWithoutBound w = ((known : Known) × Knows w 0 w.task.goal known) ⊎ ((b : BoardModel) (cost : ℕ) → ¬ IsInFrontier w b cost)
 
 -- the least f of what waits, and no plan costs less; None where there is no bound
-abbrev pub IsBoundOf : {S : Type 0} → (S → ℕ → Position → ℕ) → Parts S → Option ℕ → Type 0
-IsBoundOf owner_of parts None = IsWithoutBound (world_of owner_of parts)
-IsBoundOf owner_of parts (Some f) = NoneIsBelow parts.job f × All (λ worker. WaitsFrom worker.lists f) parts.workers.items
+abbrev pub IsBoundSoFar : {S : Type 0} → (S → ℕ → BoardModel → ℕ) → Parts S → Option ℕ → Type 0
+IsBoundSoFar owner_of parts None = IsWithoutBound (world_of owner_of parts)
+IsBoundSoFar owner_of parts (Some f) = NoneIsBelow parts.job f × All (λ worker. WaitsFrom worker.lists f) parts.workers.items
 
 -- what may still be granted, and what may still be expanded
 abbrev pub work_left : WorldState → ℕ
 work_left w = (w.book.limit - w.book.granted) + (w.book.limit - expansion_count w)
 
 -- this step is refused so
-abbrev pub Refuses : WorldState → Step → Refusal → Type 0
-Refuses w step refusal = Next step (turn w (Some refusal) w)
+abbrev pub RefusesStep : WorldState → Step → Refusal → Type 0
+RefusesStep w step refusal = Next step (turn w (Some refusal) w)
 
 -- why the worker has no more to do
 abbrev pub IsStuck : WorldState → End → Type 0
-IsStuck w Quiet = Refuses w (Expand 0) refusals.NothingBelowLimit
-IsStuck w Limit = Refuses w (Grant 0) refusals.NoAllowance
-IsStuck w (Memory refused) = Refuses w (Expand 0) (refusals.Memory refused)
+IsStuck w Quiet = RefusesStep w (Expand 0) refusals.NothingBelowLimit
+IsStuck w Limit = RefusesStep w (Grant 0) refusals.NoAllowance
+IsStuck w (Memory refused) = RefusesStep w (Expand 0) (refusals.Memory refused)
 
 -- some steps, and last steps, lead from one world to another, where the run has stopped
 pub record Stops (w w' : WorldState) : Type 0 where

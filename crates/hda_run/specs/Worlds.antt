@@ -1,7 +1,7 @@
 -- What contracts see of a world.
 use Rattle.std.specs.Prelude.{ℕ, ◌≡◌, ◌≢◌, ◌<◌, ◌≤◌, [], All, length, map, slice_index_or}
-use Rattle.board.specs.Positions.{Position}
-use Rattle.search_lists.specs.Lists.{Lists}
+use Rattle.board.specs.Boards.{BoardModel}
+use Rattle.search_lists.specs.Lists.{SearchListsModel}
 use Rattle.worker_core.specs.Roles.{IsGuided, guide_of}
 use Rattle.worker_core.specs.Workers.{state_of}
 use Rattle.world_model.specs.declared.limits.TheConstants.{WORKER_LIMIT}
@@ -11,10 +11,10 @@ use Rattle.world_model.specs.Shapes.{IsShaped}
 use Rattle.world_model.specs.Soundness.{IsSound}
 use Rattle.world_model.specs.Worlds.{WorldState}
 use Rattle.hda_run.specs.declared.parts.Parts.{Parts}
-use Rattle.hda_run.specs.Problems.{Problem, task_in}
+use Rattle.hda_run.specs.Jobs.{JobModel, task_in}
 
 -- the world that these parts make, where boards have these owners, by the spread and the number of workers
-abbrev pub world_of : {S : Type 0} → (S → ℕ → Position → ℕ) → Parts S → WorldState
+abbrev pub world_of : {S : Type 0} → (S → ℕ → BoardModel → ℕ) → Parts S → WorldState
 world_of owner_of parts = record {
   task = task_in parts.job;
   owner = owner_of parts.owners.now (length parts.workers.items);
@@ -28,18 +28,18 @@ abbrev pub AreGuided : {S : Type 0} → Parts S → Type 0
 AreGuided parts = All (λ worker. IsGuided (task_in parts.job) (guide_of (task_in parts.job)) worker.lists) parts.workers.items
 
 -- what a world keeps, whatever steps are taken in it: it is shaped, sound and credited, and its workers are guided
-pub record IsLawful {S : Type 0} (owner_of : S → ℕ → Position → ℕ) (parts : Parts S) : Type 0 where
+pub record IsLawful {S : Type 0} (owner_of : S → ℕ → BoardModel → ℕ) (parts : Parts S) : Type 0 where
   pub shaped : IsShaped (world_of owner_of parts)
   pub sound : IsSound (world_of owner_of parts)
   pub credited : IsCredited (world_of owner_of parts)
   pub guided : AreGuided parts
 
 -- something waits at f, and nothing below it
-abbrev pub WaitsFrom : Lists → ℕ → Type 0
+abbrev pub WaitsFrom : SearchListsModel → ℕ → Type 0
 WaitsFrom lists f = (slice_index_or lists.waiting.entries f [] ≢ []) × ((h : ℕ) → h < f → slice_index_or lists.waiting.entries h [] ≡ [])
 
 -- what n workers do, where boards have these owners, by the spread and the number of workers
-abbrev pub job_of : {S : Type 0} → (S → ℕ → Position → ℕ) → Problem → S → ℕ → Job
+abbrev pub job_of : {S : Type 0} → (S → ℕ → BoardModel → ℕ) → JobModel → S → ℕ → Job
 job_of owner_of p owners workers = record { task = task_in p; limit = p.limit; count = workers; owner = owner_of owners workers }
 
 -- there are workers, but not too many

@@ -3,7 +3,7 @@
 ghost use Rattle.std.specs.Prelude.{ℕ, ◌≡◌, ◌≢◌, ◌↔◌, ◌<◌, Ok, IfOk, IfErr};
 ghost use Rattle.std.specs.Prelude.{IsOk, IsTrue, Option, Vec};
 ghost use Rattle.std.specs.declared.alloc.Global.{Global};
-ghost use Rattle.board.specs.Positions.{Position};
+ghost use Rattle.board.specs.Boards.{BoardModel};
 ghost use Rattle.board.specs.Classes.{SameClass};
 ghost use Rattle.board.specs.declared.moves.Move.{Move};
 ghost use Rattle.outcomes.specs.Outcomes.{Answers};
@@ -16,9 +16,9 @@ ghost use Rattle.world_model.specs.declared.steps.Step.{Step};
 ghost use Rattle.world_model.specs.Steps.{Next};
 ghost use Rattle.world_model.specs.Turns.{turn, refusal_in};
 ghost use Rattle.hda_run.specs.Alone.{IsRunAlone, IsFoundAlone, IsByOne};
-ghost use Rattle.hda_run.specs.Problems.{task_in};
-ghost use Rattle.hda_run.specs.Rounds.{IsLone, Reaches, work_left, Refuses, IsStuck};
-ghost use Rattle.hda_run.specs.Rounds.{IsBoundOf, Stops};
+ghost use Rattle.hda_run.specs.Jobs.{task_in};
+ghost use Rattle.hda_run.specs.Rounds.{IsLone, Reaches, work_left, RefusesStep, IsStuck};
+ghost use Rattle.hda_run.specs.Rounds.{IsBoundSoFar, Stops};
 ghost use Rattle.hda_run.specs.WholeRuns.{EndsWholeRun};
 ghost use Rattle.hda_run.specs.Worlds.{world_of, job_of};
 
@@ -60,7 +60,7 @@ pub fn solve_one<'a, S: Spread, G: Gate>(
         → IfOk result (IsByOne S.owner_of job.entry spread.now) }
     ensures answers { IfOk result (Answers (task_in job.entry)) }
     ensures kept { IfOk result (λ outcome. (bound : ℕ) (best : Option (ℕ × Vec Move Global))
-        (cause : Cause) (rows : Option (Vec (Position × ℕ) Global))
+        (cause : Cause) (rows : Option (Vec (BoardModel × ℕ) Global))
         → outcome ≡ Bounded bound best cause rows → (cause ≢ Cut) × (cause ≢ Start)) }
 {
     read_one::<WithRows, S, G>(alloc, job, spread, gate)
@@ -187,7 +187,7 @@ fn show_lists<S: Spread, G: Gate>(world: &World<'_, S>, gate: &G, known: usize)
 // plan may cost less than that, or where no board is open.
 fn bound_of<S: Spread>(world: &World<'_, S>) -> Option<u32>
     requires { IsLone (world_of S.owner_of world.now) }
-    ensures { IsBoundOf S.owner_of world.now result }
+    ensures { IsBoundSoFar S.owner_of world.now result }
 {
     // This call gives what each world keeps.
     let _ = world.workers();
@@ -206,7 +206,7 @@ fn be_granted<S: Spread, G: Gate>(
     gate: &G,
 ) -> Result<(), End>
     requires lone { IsLone (world_of S.owner_of world.old) }
-    requires spent { Refuses (world_of S.owner_of world.old) (Step.Expand 0) Refusal.NoAllowance }
+    requires spent { RefusesStep (world_of S.owner_of world.old) (Step.Expand 0) Refusal.NoAllowance }
     ensures run { Reaches (world_of S.owner_of world.old) (world_of S.owner_of world.new) }
     ensures less { IsOk result
         → work_left (world_of S.owner_of world.new) < work_left (world_of S.owner_of world.old) }
@@ -254,7 +254,7 @@ fn stop_for<S: Spread, G: Gate>(alloc: Global, world: &mut World<'_, S>, gate: &
 // The worker rests, when it has announced what it knows.
 fn rest<S: Spread, G: Gate>(alloc: Global, world: &mut World<'_, S>, gate: &G)
     requires lone { IsLone (world_of S.owner_of world.old) }
-    requires stuck { Refuses (world_of S.owner_of world.old) (Step.Expand 0)
+    requires stuck { RefusesStep (world_of S.owner_of world.old) (Step.Expand 0)
         Refusal.NothingBelowLimit }
     ensures stops { Stops (world_of S.owner_of world.old) (world_of S.owner_of world.new) }
     ensures job { world.new.job ≡ world.old.job }

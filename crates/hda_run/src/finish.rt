@@ -8,7 +8,7 @@ ghost use Rattle.outcomes.specs.Outcomes.{Answers};
 ghost use Rattle.world_model.specs.Outcomes.{IsGiven};
 ghost use Rattle.world_model.specs.Workers.{Packet, Lane};
 ghost use Rattle.world_ends.specs.Lowest.{IsLeastBeside, IsOfItem, AreItemsOn};
-ghost use Rattle.hda_run.specs.Problems.{task_in};
+ghost use Rattle.hda_run.specs.Jobs.{task_in};
 ghost use Rattle.hda_run.specs.Lanes.{IsOfOne, IsInLane, IsInLanes};
 ghost use Rattle.hda_run.specs.Worlds.{world_of, IsLawful};
 

@@ -2,7 +2,7 @@
 
 ghost use Rattle.std.specs.Prelude.{◌≡◌, ⊤, IsTrue};
 ghost use Rattle.hda_run.specs.Kinds as kinds;
-ghost use Rattle.hda_run.specs.Rounds.{IsBoundOf};
+ghost use Rattle.hda_run.specs.Rounds.{IsBoundSoFar};
 
 use crate::world::World;
 use owners::Spread;
@@ -72,7 +72,7 @@ pub trait Gate {
     /// None where the goal was met, or no board is open.
     fn show_bound<S: Spread>(&self, _world: &World<'_, S>, _bound: Option<u32>)
         requires wanted { is_wanted self.now }
-        requires bound { IsBoundOf S.owner_of _world.now _bound }
+        requires bound { IsBoundSoFar S.owner_of _world.now _bound }
     {}
 }
 

@@ -4,7 +4,7 @@ ghost use Rattle.std.specs.Prelude.{◌≡◌, ◌<◌, ◌↔◌, IsOk, IsErrOf
 ghost use Rattle.board.specs.Rows.{IsLowerBound};
 ghost use Rattle.lower_bound.specs.Tables.{ArePotentials};
 ghost use Rattle.world_model.specs.Shapes.{IsTask};
-ghost use Rattle.hda_run.specs.Problems.{problem, context_in, HasOneShape, task_in};
+ghost use Rattle.hda_run.specs.Jobs.{problem, context_in, HasOneShape, task_in};
 
 use crate::faults::JobFault;
 use board::{Board, Weights};
@@ -26,9 +26,9 @@ pub struct Job<'a> {
 }
 
 impl<'a> Model for Job<'a> {
-    ghost use Rattle.hda_run.specs.Problems.{Problem, problem, IsProblem};
+    ghost use Rattle.hda_run.specs.Jobs.{JobModel, problem, IsProblem};
 
-    ghost Value = { Problem };
+    ghost Value = { JobModel };
 
     ghost view = { λ j. problem j.start j.goal j.weights j.bound.now j.limit };
 

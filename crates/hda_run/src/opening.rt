@@ -11,7 +11,7 @@ ghost use Rattle.worker_core.specs.Workers.{state_of};
 ghost use Rattle.world_model.specs.declared.limits.TheConstants.{WORKER_LIMIT};
 ghost use Rattle.world_model.specs.Openings.{idle_worker, opening};
 ghost use Rattle.world_model.specs.Openings.{first_worker as first_state};
-ghost use Rattle.hda_run.specs.Problems.{task_in};
+ghost use Rattle.hda_run.specs.Jobs.{task_in};
 ghost use Rattle.hda_run.specs.Worlds.{world_of, AreGuided, job_of};
 
 use crate::job::Job;

@@ -11,7 +11,7 @@ ghost use Rattle.world_model.specs.Soundness.{IsSound};
 ghost use Rattle.world_model.specs.Steps.{Next};
 ghost use Rattle.world_model.specs.Turns.{turn, refusal_in};
 ghost use Rattle.world_model.specs.Worlds.{IsLane};
-ghost use Rattle.hda_run.specs.Problems.{task_in};
+ghost use Rattle.hda_run.specs.Jobs.{task_in};
 ghost use Rattle.hda_run.specs.Worlds.{world_of, job_of, AreGuided, IsWorkerCount};
 
 use crate::faults::WorldFault;

@@ -9,11 +9,11 @@ use Rattle.std.proofs.lemmas.List.FromFn.{length-range_with_len, get_or-range_wi
 use Rattle.std.proofs.lemmas.Grind.{same_number_lists}
 use Rattle.std.proofs.lemmas.Nat.{mul-le}
 use Rattle.std.proofs.Math.Nat.{max-eq_right, pow-le-pow_right, pow-succ', pow-zero}
-use Rattle.board.specs.Grids.{Grid, cell_count}
-use Rattle.board.specs.Positions.{Position, IsBoard, blank_of, cell_of}
+use Rattle.board.specs.Shapes.{ShapeModel, cell_count}
+use Rattle.board.specs.Boards.{BoardModel, IsBoard, blank_of, cell_of}
 use Rattle.board.proofs.TileLemmas.{has_cell}
-use Rattle.pattern_index.specs.Selections.{Selection, IsGroup, IsSelection}
-use Rattle.pattern_index.specs.Splits.{IsSplit, Split}
+use Rattle.pattern_index.specs.Groups.{GroupModel, AreGroupTiles, IsGroup}
+use Rattle.pattern_index.specs.Partitions.{IsPartition, PartitionModel}
 use Rattle.pattern_index.specs.Sparse.{digit_base, slot_in, sparse_of, stride_of}
 use Rattle.pattern_index.specs.Views.{IsView, exchanged, view_of}
 use Rattle.pattern_index.proofs.GroupLemmas.{groups_small}
@@ -21,13 +21,13 @@ use Rattle.pattern_index.proofs.SparseLemmas.{digits_none, slot-parts, slot_belo
 use Rattle.pattern_index.proofs.StorageLemmas.{looked_up}
 use Rattle.pattern_index.proofs.ViewMoveLemmas.{board_view}
 use Rattle.search_keys.proofs.SearchKeyLemmas.{digit_set}
-use Rattle.database_build.specs.Tables.{Lookup, value_in}
+use Rattle.database_build.specs.Tables.{TableModel, value_in}
 use Rattle.lower_bound.specs.Bounds.{Part, sum_of}
 use Rattle.lower_bound.specs.ByTile.{AreGroupsByTile}
 use Rattle.lower_bound.specs.Consecutive.{AreConsecutive, HasConsecutiveGroups, HasConsecutiveTables, IsConsecutiveMove, IsConsecutiveOn}
 use Rattle.lower_bound.specs.Lists.{AreHeldWhole, tables_in}
-use Rattle.lower_bound.specs.Slides.{AreCellsOf, HasCells, HasSum, IsMoveOf, IsSlide}
-use Rattle.lower_bound.specs.Tables.{AreConsistent, AreWhole, IsTables, Tables, parts_of}
+use Rattle.lower_bound.specs.Slides.{AreCellsOf, HasCells, HasSum, IsMoveOf, IsTileMove}
+use Rattle.lower_bound.specs.Tables.{AreConsistent, AreWhole, IsTables, BoundModel, parts_of}
 use Rattle.lower_bound.specs.declared.bound.Held.{Held}
 use Rattle.lower_bound.specs.declared.bound.Held.TheVariants.{Whole, Folded}
 use Rattle.lower_bound.proofs.PartLemmas.{each_lookup, tables_sum, whole_each, whole_parts}
@@ -36,10 +36,10 @@ use Rattle.lower_bound.proofs.SlideLemmas.{blank_there, board_groups, cells_ther
 -- ---- cells of a board
 
 -- the cells of a board by number, with a place for each that a board may have
-abbrev pub listed : Position → List ℕ
+abbrev pub listed : BoardModel → List ℕ
 listed b = map (cell_of b) (range_with_len 0 25)
 
-pub cells_listed : (b : Position) → IsBoard b → AreCellsOf b (listed b)
+pub cells_listed : (b : BoardModel) → IsBoard b → AreCellsOf b (listed b)
 cells_listed b board = record {
   all = length-map-range_with_len (cell_of b) 0 25;
   are = λ number low. let few = few_cells b.grid board.sides in get_or-map-range_with_len (cell_of b) 0 25 number number 0 (omega (arith, low, few)) (omega arith);
@@ -93,7 +93,7 @@ one_digit n cell =
 
 -- ---- what consecutive tiles see of a board
 
-module _ (g : Selection) (b : Position) (selection : IsSelection g) (is : IsConsecutiveOn g b) where
+module _ (g : GroupModel) (b : BoardModel) (selection : IsGroup g) (is : IsConsecutiveOn g b) where
   abbrev first : ℕ
   first = slice_index g.tiles 0
 
@@ -101,10 +101,10 @@ module _ (g : Selection) (b : Position) (selection : IsSelection g) (is : IsCons
   count = length g.tiles
 
   based : digit_base g.grid ≡ 16
-  based = max-eq_right (subst (λ (grid : Grid). cell_count grid ≤ 16) is.sides is.few)
+  based = max-eq_right (subst (λ (grid : ShapeModel). cell_count grid ≤ 16) is.sides is.few)
 
-  group : IsGroup b.grid g.tiles
-  group = subst (λ (grid : Grid). IsGroup grid g.tiles) (sym is.sides) selection.group
+  group : AreGroupTiles b.grid g.tiles
+  group = subst (λ (grid : ShapeModel). AreGroupTiles grid g.tiles) (sym is.sides) selection.group
 
   -- there are at most nine tiles
   pub tiles_few : count ≤ 9
@@ -112,9 +112,9 @@ module _ (g : Selection) (b : Position) (selection : IsSelection g) (is : IsCons
 
   -- what the group sees is a view
   pub sees_before : IsView g.grid g.tiles (view_of g.tiles b)
-  sees_before = subst (λ (grid : Grid). IsView grid g.tiles (view_of g.tiles b)) is.sides (board_view g.tiles b is.board group)
+  sees_before = subst (λ (grid : ShapeModel). IsView grid g.tiles (view_of g.tiles b)) is.sides (board_view g.tiles b is.board group)
 
-  slot_parts : (p : Position) → slot_in g.grid (view_of g.tiles p) ≡ blank_of p + 16 * sparse_of 16 (map (cell_of p) g.tiles)
+  slot_parts : (p : BoardModel) → slot_in g.grid (view_of g.tiles p) ≡ blank_of p + 16 * sparse_of 16 (map (cell_of p) g.tiles)
   slot_parts p = ap (λ (n : ℕ). sparse_of n (blank_of p ∷ map (cell_of p) g.tiles)) based ∙ slot-parts 16 (blank_of p) (map (cell_of p) g.tiles)
 
   -- the digits that are read make its slot
@@ -141,7 +141,7 @@ module _ (g : Selection) (b : Position) (selection : IsSelection g) (is : IsCons
 
 -- ---- what they see after a move
 
-module _ (g : Selection) (tile : ℕ) (b : Position) (selection : IsSelection g) (is : IsConsecutiveMove g tile b) where
+module _ (g : GroupModel) (tile : ℕ) (b : BoardModel) (selection : IsGroup g) (is : IsConsecutiveMove g tile b) where
   board : IsBoard b
   board = is.here.board
 
@@ -149,12 +149,12 @@ module _ (g : Selection) (tile : ℕ) (b : Position) (selection : IsSelection g)
   pub within : (slice_index g.tiles 0 ≤ tile) × (tile < slice_index g.tiles 0 + length g.tiles)
   within = range_within (slice_index g.tiles 0) (length g.tiles) tile (subst (λ (ts : List ℕ). Contains ts tile) is.here.consecutive is.has)
 
-  module _ (b' : Position) (move : IsMoveOf tile b b') where
+  module _ (b' : BoardModel) (move : IsMoveOf tile b b') where
     pub sees_after : IsView g.grid g.tiles (view_of g.tiles b')
     sees_after =
         let same : b'.grid ≡ b.grid = moved_sides tile b b' board move in
-        subst (λ (grid : Grid). IsView grid g.tiles (view_of g.tiles b')) (same ∙ is.here.sides)
-        (board_view g.tiles b' (moved_board tile b b' board move) (subst (λ (grid : Grid). IsGroup grid g.tiles) (sym same) (group g b selection is.here)))
+        subst (λ (grid : ShapeModel). IsView grid g.tiles (view_of g.tiles b')) (same ∙ is.here.sides)
+        (board_view g.tiles b' (moved_board tile b b' board move) (subst (λ (grid : ShapeModel). AreGroupTiles grid g.tiles) (sym same) (group g b selection is.here)))
 
     -- the cells of the tiles as digits, before and after
     next : sparse_of 16 (map (cell_of b') g.tiles) + cell_of b tile * 16 ^ (tile - slice_index g.tiles 0) ≡ sparse_of 16 (map (cell_of b) g.tiles) + blank_of b * 16 ^ (tile - slice_index g.tiles 0)
@@ -163,7 +163,7 @@ module _ (g : Selection) (tile : ℕ) (b : Position) (selection : IsSelection g)
         let of : AreCellsOf b (listed b) = cells_listed b board in
         let of' : AreCellsOf b' (exchanged (listed b) tile) = moved_cells tile b b' board move (listed b) of in
         let same : b'.grid ≡ b.grid = moved_sides tile b b' board move in
-        let low : (grid : Grid) → grid ≡ b.grid → All (λ t. t < cell_count grid) g.tiles = λ grid e. subst (λ (h : Grid). All (λ t. t < cell_count h) g.tiles) (sym e) (λ k d k_in. ((group g b selection is.here).tiles k d k_in).1) in
+        let low : (grid : ShapeModel) → grid ≡ b.grid → All (λ t. t < cell_count grid) g.tiles = λ grid e. subst (λ (h : ShapeModel). All (λ t. t < cell_count h) g.tiles) (sym e) (λ k d k_in. ((group g b selection is.here).tiles k d k_in).1) in
         let here : map (slice_index (listed b)) g.tiles ≡ map (cell_of b) g.tiles = looked_up b (listed b) g.tiles of.are (recursion_from_All (λ t. t < cell_count b.grid) g.tiles (low b.grid refl)) in
         let there : map (slice_index (exchanged (listed b) tile)) g.tiles ≡ map (cell_of b') g.tiles = looked_up b' (exchanged (listed b) tile) g.tiles of'.are (recursion_from_All (λ t. t < cell_count b'.grid) g.tiles (low b'.grid same)) in
         let stride : stride_of 16 g.tiles tile ≡ 16 ^ (tile - slice_index g.tiles 0) = ap (λ (ts : List ℕ). stride_of 16 ts tile) is.here.consecutive ∙ range_stride 16 (slice_index g.tiles 0) (length g.tiles) tile within.0 within.1 in
@@ -227,17 +227,17 @@ module _ (g : Selection) (tile : ℕ) (b : Position) (selection : IsSelection g)
 -- ---- what is read of a board
 
 -- digits that are read of a board, and the slot that they make
-pub record IsRead (g : Selection) (b : Position) (sparse blank : ℕ) : Type 0 where
+pub record IsRead (g : GroupModel) (b : BoardModel) (sparse blank : ℕ) : Type 0 where
   pub small : sparse * 16 + blank < 16 ^ 10
   pub sees : IsView g.grid g.tiles (view_of g.tiles b)
   pub slot : slot_in g.grid (view_of g.tiles b) ≡ sparse * 16 + blank
 
 -- by what names the code has
-module _ (g : Selection) (b : Position) (own : Selection) (tiles : List ℕ) (sparse blank : ℕ) (is : IsConsecutiveOn g b) (same : own ≡ g) (listed_are : tiles ≡ own.tiles) (selected : IsSelection own) where
+module _ (g : GroupModel) (b : BoardModel) (own : GroupModel) (tiles : List ℕ) (sparse blank : ℕ) (is : IsConsecutiveOn g b) (same : own ≡ g) (listed_are : tiles ≡ own.tiles) (selected : IsGroup own) where
   pub digits_read : sparse ≡ sparse_of 16 (map (cell_of b) (range_with_len (slice_index tiles 0) (length tiles))) → blank ≡ sparse_of 16 (map (cell_of b) (range_with_len 0 1)) → IsRead g b sparse blank
   digits_read sparse_is blank_is =
-      let selection : IsSelection g = subst IsSelection same selected in
-      let tiles_are : tiles ≡ g.tiles = listed_are ∙ ap (λ (s : Selection). s.tiles) same in
+      let selection : IsGroup g = subst IsGroup same selected in
+      let tiles_are : tiles ≡ g.tiles = listed_are ∙ ap (λ (s : GroupModel). s.tiles) same in
       let read = slot_read g b selection is sparse blank (slice_index tiles 0) (length tiles) (ap (λ (ts : List ℕ). slice_index ts 0) tiles_are) (ap length tiles_are) sparse_is blank_is in
       let small = slot_small g b selection is in
       record { small = omega (arith, small, read); sees = sees_before g b selection is; slot = read }
@@ -245,20 +245,20 @@ module _ (g : Selection) (b : Position) (own : Selection) (tiles : List ℕ) (sp
 -- ---- what is read of a board before a move
 
 -- the slot and the digits that are read of a board, and the slot after a move
-pub record IsReadToMove (g : Selection) (tile : ℕ) (b : Position) (slot blank cell start : ℕ) : Type 0 where
+pub record IsReadToMove (g : GroupModel) (tile : ℕ) (b : BoardModel) (slot blank cell start : ℕ) : Type 0 where
   pub above : start ≤ tile
   pub fits : slot + blank * 16 ^ (tile - start + 1) + cell < 2 ^ 64
   pub stand : cell * 16 ^ (tile - start + 1) + blank ≤ slot
-  pub sees_next : (b' : Position) → IsMoveOf tile b b' → IsView g.grid g.tiles (view_of g.tiles b')
-  pub next : (b' : Position) (after : ℕ) → IsMoveOf tile b b' → after + (cell * 16 ^ (tile - start + 1) + blank) ≡ slot + blank * 16 ^ (tile - start + 1) + cell → slot_in g.grid (view_of g.tiles b') ≡ after
+  pub sees_next : (b' : BoardModel) → IsMoveOf tile b b' → IsView g.grid g.tiles (view_of g.tiles b')
+  pub next : (b' : BoardModel) (after : ℕ) → IsMoveOf tile b b' → after + (cell * 16 ^ (tile - start + 1) + blank) ≡ slot + blank * 16 ^ (tile - start + 1) + cell → slot_in g.grid (view_of g.tiles b') ≡ after
 
 -- by what names the code has
-module _ (g : Selection) (tile : ℕ) (b : Position) (own : Selection) (tiles : List ℕ) (slot blank cell : ℕ) (is : IsConsecutiveMove g tile b) (same : own ≡ g) (listed_are : tiles ≡ own.tiles) (selected : IsSelection own) where
-  selection : IsSelection g
-  selection = subst IsSelection same selected
+module _ (g : GroupModel) (tile : ℕ) (b : BoardModel) (own : GroupModel) (tiles : List ℕ) (slot blank cell : ℕ) (is : IsConsecutiveMove g tile b) (same : own ≡ g) (listed_are : tiles ≡ own.tiles) (selected : IsGroup own) where
+  selection : IsGroup g
+  selection = subst IsGroup same selected
 
   tiles_are : tiles ≡ g.tiles
-  tiles_are = listed_are ∙ ap (λ (s : Selection). s.tiles) same
+  tiles_are = listed_are ∙ ap (λ (s : GroupModel). s.tiles) same
 
   pub move_read :
       slot_in g.grid (view_of g.tiles b) ≡ slot
@@ -292,76 +292,76 @@ module _ (g : Selection) (tile : ℕ) (b : Position) (own : Selection) (tiles : 
 -- ---- the sum
 
 -- whole tables that are held for consecutive groups
-pub held_consecutive : (split : Split) (held : Held) → AreHeldWhole held × HasConsecutiveGroups split → HasConsecutiveTables (tables_in split held)
+pub held_consecutive : (split : PartitionModel) (held : Held) → AreHeldWhole held × HasConsecutiveGroups split → HasConsecutiveTables (tables_in split held)
 held_consecutive split (Whole tables) both = record { whole = refl; groups = both.1 }
 held_consecutive split (Folded folds) both = absurd both.0
 
 -- each group is read by digits
-pub groups_read : (split : Split) (b : Position) → IsSplit split → HasConsecutiveGroups split → IsBoard b → b.grid ≡ split.grid → All (λ g. IsConsecutiveOn g b) split.groups
+pub groups_read : (split : PartitionModel) (b : BoardModel) → IsPartition split → HasConsecutiveGroups split → IsBoard b → b.grid ≡ split.grid → All (λ g. IsConsecutiveOn g b) split.groups
 groups_read split b is consecutive board sides k d k_in = record {
   board = board;
-  few = subst (λ (grid : Grid). cell_count grid ≤ 16) (sym sides) consecutive.few;
+  few = subst (λ (grid : ShapeModel). cell_count grid ≤ 16) (sym sides) consecutive.few;
   sides = sides ∙ sym (is.of_grid k d k_in);
   consecutive = consecutive.groups k d k_in;
 }
 
 -- so is each table's
-pub tables_read : (tables : Tables) (lookups : List Lookup) (b : Position) → IsTables tables → HasConsecutiveGroups tables.split → IsBoard b → b.grid ≡ tables.split.grid → lookups ≡ tables.lookups → All (λ table. IsConsecutiveOn table.selection b) lookups
+pub tables_read : (tables : BoundModel) (lookups : List TableModel) (b : BoardModel) → IsTables tables → HasConsecutiveGroups tables.split → IsBoard b → b.grid ≡ tables.split.grid → lookups ≡ tables.lookups → All (λ table. IsConsecutiveOn table.selection b) lookups
 tables_read tables lookups b is consecutive board sides same =
-    subst (λ (ls : List Lookup). All (λ table. IsConsecutiveOn table.selection b) ls) (sym same)
+    subst (λ (ls : List TableModel). All (λ table. IsConsecutiveOn table.selection b) ls) (sym same)
     (each_lookup (λ g. IsConsecutiveOn g b) tables is (groups_read tables.split b is.partition consecutive board sides))
 
 -- whole tables' values are added
-pub sum_read : (tables : Tables) (lookups : List Lookup) (b : Position) → AreWhole tables → lookups ≡ tables.lookups → sum_by (λ table. value_in table (view_of table.selection.tiles b)) lookups ≡ sum_of (parts_of tables) b
+pub sum_read : (tables : BoundModel) (lookups : List TableModel) (b : BoardModel) → AreWhole tables → lookups ≡ tables.lookups → sum_by (λ table. value_in table (view_of table.selection.tiles b)) lookups ≡ sum_of (parts_of tables) b
 sum_read tables lookups b whole same =
-    ap (λ (ls : List Lookup). sum_by (λ table. value_in table (view_of table.selection.tiles b)) ls) same
+    ap (λ (ls : List TableModel). sum_by (λ table. value_in table (view_of table.selection.tiles b)) ls) same
     ∙ tables_sum tables.lookups b
     ∙ ap (λ (ps : List Part). sum_of ps b) (sym (whole_parts tables whole))
 
 -- ---- the sum after a move
 
 -- a board whose sum is known, by its cells
-pub slide_of : (tables : Tables) (cells : List ℕ) (tile sum : ℕ) (b b' : Position) → HasSum tables b sum → HasCells b.grid cells b → IsMoveOf tile b b' → IsSlide tables.split.grid cells tile b b'
-slide_of tables cells tile sum b b' has at move = record { before = subst (λ (grid : Grid). HasCells grid cells b) has.sides at; move = move }
+pub slide_of : (tables : BoundModel) (cells : List ℕ) (tile sum : ℕ) (b b' : BoardModel) → HasSum tables b sum → HasCells b.grid cells b → IsMoveOf tile b b' → IsTileMove tables.split.grid cells tile b b'
+slide_of tables cells tile sum b b' has at move = record { before = subst (λ (grid : ShapeModel). HasCells grid cells b) has.sides at; move = move }
 
-module _ (tables : Tables) (places : List ℕ) (tile : ℕ) (b : Position) (is : IsTables tables) (by : AreGroupsByTile tables.split.groups places) (whole : AreWhole tables) (board : IsBoard b) (sides : b.grid ≡ tables.split.grid) where
+module _ (tables : BoundModel) (places : List ℕ) (tile : ℕ) (b : BoardModel) (is : IsTables tables) (by : AreGroupsByTile tables.split.groups places) (whole : AreWhole tables) (board : IsBoard b) (sides : b.grid ≡ tables.split.grid) where
   has : HasCells tables.split.grid (listed b) b
   has = record { board = board; sides = sides; listed = cells_listed b board }
 
   -- a move whose tile no group has leaves the sum as it is
-  pub sum_stays : AreConsistent tables → length tables.lookups ≤ slice_index places tile → (b' : Position) → IsMoveOf tile b b' → sum_of (parts_of tables) b ≡ sum_of (parts_of tables) b'
+  pub sum_stays : AreConsistent tables → length tables.lookups ≤ slice_index places tile → (b' : BoardModel) → IsMoveOf tile b b' → sum_of (parts_of tables) b ≡ sum_of (parts_of tables) b'
   sum_stays consistent past b' move =
-      let slide : IsSlide tables.split.grid (listed b) tile b b' = record { before = has; move = move } in
+      let slide : IsTileMove tables.split.grid (listed b) tile b b' = record { before = has; move = move } in
       sym (sum_is tables is (listed b) b has)
       ∙ whole_none tables places (listed b) tile (exchange_of tables is (listed b) tile b b' slide consistent) is by whole past
       ∙ sum_is tables is (exchanged (listed b) tile) b' (cells_there tables is (listed b) tile b b' slide)
 
-  module _ (table : Lookup) (low : slice_index places tile < length tables.lookups) (at : table ≡ get_or tables.lookups (slice_index places tile) table) where
-    of_table : (P : Selection → Type 0) → All P tables.split.groups → P table.selection
-    of_table P all = subst (λ (t : Lookup). P t.selection) (sym at) (each_lookup P tables is all (slice_index places tile) table low)
+  module _ (table : TableModel) (low : slice_index places tile < length tables.lookups) (at : table ≡ get_or tables.lookups (slice_index places tile) table) where
+    of_table : (P : GroupModel → Type 0) → All P tables.split.groups → P table.selection
+    of_table P all = subst (λ (t : TableModel). P t.selection) (sym at) (each_lookup P tables is all (slice_index places tile) table low)
 
     -- else one value of it changes, that of the table at the tile's place
     pub sum_changes :
-        AreConsistent tables → (b' : Position) → IsMoveOf tile b b'
+        AreConsistent tables → (b' : BoardModel) → IsMoveOf tile b b'
         → (value_in table (view_of table.selection.tiles b) ≤ sum_of (parts_of tables) b)
         × (sum_of (parts_of tables) b' ≡ sum_of (parts_of tables) b - value_in table (view_of table.selection.tiles b) + value_in table (view_of table.selection.tiles b'))
     sum_changes consistent b' move =
-        let slide : IsSlide tables.split.grid (listed b) tile b b' = record { before = has; move = move } in
+        let slide : IsTileMove tables.split.grid (listed b) tile b b' = record { before = has; move = move } in
         let there = cells_there tables is (listed b) tile b b' slide in
         let one = whole_at tables places (listed b) tile (exchange_of tables is (listed b) tile b b' slide consistent) is by whole table low at in
         let before : whole_says (listed b) table ≡ value_in table (view_of table.selection.tiles b) =
-        ap (value_in table) (seen_at tables is (listed b) b has table.selection.tiles (of_table (λ g. IsGroup b.grid g.tiles) (board_groups tables is (listed b) b has))) in
+        ap (value_in table) (seen_at tables is (listed b) b has table.selection.tiles (of_table (λ g. AreGroupTiles b.grid g.tiles) (board_groups tables is (listed b) b has))) in
         let after : whole_says (exchanged (listed b) tile) table ≡ value_in table (view_of table.selection.tiles b') =
-        ap (value_in table) (seen_at tables is (exchanged (listed b) tile) b' there table.selection.tiles (of_table (λ g. IsGroup b'.grid g.tiles) (board_groups tables is (exchanged (listed b) tile) b' there))) in
+        ap (value_in table) (seen_at tables is (exchanged (listed b) tile) b' there table.selection.tiles (of_table (λ g. AreGroupTiles b'.grid g.tiles) (board_groups tables is (exchanged (listed b) tile) b' there))) in
         let sum = sum_is tables is (listed b) b has in
         let sum' = sum_is tables is (exchanged (listed b) tile) b' there in
         (omega (arith, one.low, before, sum), omega (arith, one.next, before, after, sum, sum'))
 
     -- where digits are read, the group has the tile
-    pub consecutive_move : HasConsecutiveGroups tables.split → (b' : Position) × IsMoveOf tile b b' → IsConsecutiveMove table.selection tile b
+    pub consecutive_move : HasConsecutiveGroups tables.split → (b' : BoardModel) × IsMoveOf tile b b' → IsConsecutiveMove table.selection tile b
     consecutive_move consecutive moved = record {
       here = of_table (λ g. IsConsecutiveOn g b) (groups_read tables.split b is.partition consecutive board sides);
-      has = subst (λ (t : Lookup). Contains t.selection.tiles tile) (sym at)
-          (has_tile (λ (t : Lookup). t.selection) tables.split.groups tables.lookups (whole_each tables is whole) tile (slice_index places tile) table (by tile (tile_small tile b moved.0 board moved.1)) low);
+      has = subst (λ (t : TableModel). Contains t.selection.tiles tile) (sym at)
+          (has_tile (λ (t : TableModel). t.selection) tables.split.groups tables.lookups (whole_each tables is whole) tile (slice_index places tile) table (by tile (tile_small tile b moved.0 board moved.1)) low);
       moved = moved;
     }

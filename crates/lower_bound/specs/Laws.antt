@@ -1,31 +1,31 @@
 -- The laws of sums. Each is the contract of a function that does nothing.
 use Rattle.std.specs.Prelude.{ℕ, ◌≡◌, ◌⊎◌, ◌<◌, ◌≤◌, ◌↔◌, List, length, All, AllPairs, Contains, get_or, slice_index, slice_index_or, sum}
 use Rattle.board.specs.declared.moves.Move.{Move}
-use Rattle.board.specs.Positions.{Position, IsBoard, blank_of}
-use Rattle.board.specs.CostRules.{CostRule}
+use Rattle.board.specs.Boards.{BoardModel, IsBoard, blank_of}
+use Rattle.board.specs.Weights.{WeightsModel}
 use Rattle.board.specs.Moves.{Moves}
 use Rattle.board.specs.Rows.{IsLowerBound}
-use Rattle.pattern_index.specs.Selections.{Selection}
-use Rattle.pattern_index.specs.Splits.{Split, IsSplit, ShareNoTile}
+use Rattle.pattern_index.specs.Groups.{GroupModel}
+use Rattle.pattern_index.specs.Partitions.{PartitionModel, IsPartition, ShareNoTile}
 use Rattle.pattern_index.specs.Views.{view_of}
-use Rattle.database_build.specs.Folds.{Fold}
+use Rattle.database_build.specs.Folds.{FoldedModel}
 use Rattle.lower_bound.specs.Bounds.{Part, IsBound, sum_of}
-use Rattle.lower_bound.specs.Tables.{Tables, IsTables, AreTablesOf, AreConsistent, ArePotentials, parts_of}
+use Rattle.lower_bound.specs.Tables.{BoundModel, IsTables, AreTablesOf, AreConsistent, ArePotentials, parts_of}
 use Rattle.lower_bound.specs.Lists.{AreListed, IsFoldedBound}
 use Rattle.lower_bound.specs.declared.bound.TableList.{TableList}
 use Rattle.lower_bound.specs.declared.bound.TableList.TheVariants.{Whole, Folded}
 use Rattle.lower_bound.specs.ByTile.{AreGroupsByTile}
 use Rattle.lower_bound.specs.Slides.{IsUntold, TellsBoth}
-use Rattle.lower_bound.specs.Folded.{AreFoldsOf, AreFoldedPotentials, IsBefore, folded_parts, values_of}
+use Rattle.lower_bound.specs.Folded.{AreFoldsOf, AreFoldedPotentials, KeepsOtherTiles, folded_parts, values_of}
 
 -- a sum of potentials of groups that share no tile is admissible: never above the cost of a plan
 abbrev pub SumsAreLowerBounds : Type 0
-SumsAreLowerBounds = (rule : CostRule) (goal : Position) (parts : List Part) → IsBound rule goal parts → IsLowerBound rule (sum_of parts) goal
+SumsAreLowerBounds = (rule : WeightsModel) (goal : BoardModel) (parts : List Part) → IsBound rule goal parts → IsLowerBound rule (sum_of parts) goal
 
 -- where the tables of a partition of the goal's grid are potentials, their sum is never above the cost of a plan
 abbrev pub TablesAreLowerBounds : Type 0
 TablesAreLowerBounds =
-    (rule : CostRule) (goal : Position) (tables : Tables)
+    (rule : WeightsModel) (goal : BoardModel) (tables : BoundModel)
     → IsTables tables
     → goal.grid ≡ tables.split.grid
     → ArePotentials rule goal tables
@@ -34,8 +34,8 @@ TablesAreLowerBounds =
 -- where each table of a partition of the goal's grid was folded from a potential, their sum is never above the cost of a plan
 abbrev pub FoldedSumsAreLowerBounds : Type 0
 FoldedSumsAreLowerBounds =
-    (rule : CostRule) (goal : Position) (split : Split) (folds : List Fold)
-    → IsSplit split
+    (rule : WeightsModel) (goal : BoardModel) (split : PartitionModel) (folds : List FoldedModel)
+    → IsPartition split
     → goal.grid ≡ split.grid
     → AreFoldsOf split.groups folds
     → AreFoldedPotentials rule goal folds
@@ -44,46 +44,46 @@ FoldedSumsAreLowerBounds =
 -- a bound whose tables were folded says no more of a board than it said before
 abbrev pub FoldedBoundsSayNoMore : Type 0
 FoldedBoundsSayNoMore =
-    (tables folded : Tables)
+    (tables folded : BoundModel)
     → IsTables tables
     → IsFoldedBound tables folded
-    → (b : Position)
+    → (b : BoardModel)
     → IsBoard b
     → b.grid ≡ tables.split.grid
     → sum_of (parts_of folded) b ≤ sum_of (parts_of tables) b
 
 -- tables as they are given out: one for each group, in the order of the groups
-abbrev pub AreOneEach : List Selection → TableList → Type 0
+abbrev pub AreOneEach : List GroupModel → TableList → Type 0
 AreOneEach groups (Whole lookups) = AreTablesOf groups lookups.now
 AreOneEach groups (Folded folds) = AreFoldsOf groups folds.now
 
 -- the tables that are given out are one for each group
 abbrev pub ListedTablesAreOneEach : Type 0
-ListedTablesAreOneEach = (tables : Tables) (list : TableList) → IsTables tables → AreListed tables list → AreOneEach tables.split.groups list
+ListedTablesAreOneEach = (tables : BoundModel) (list : TableList) → IsTables tables → AreListed tables list → AreOneEach tables.split.groups list
 
 -- a move leaves each tile but one where it stood: all but that which stood where the blank is after it
 abbrev pub MovesMoveOneTile : Type 0
-MovesMoveOneTile = (rule : CostRule) (b : Position) (m : Move) (b' : Position) (c : ℕ) → IsBoard b → Moves rule b m b' c → IsBefore b b' (get_or b.tiles (blank_of b') 0)
+MovesMoveOneTile = (rule : WeightsModel) (b : BoardModel) (m : Move) (b' : BoardModel) (c : ℕ) → IsBoard b → Moves rule b m b' c → KeepsOtherTiles b b' (get_or b.tiles (blank_of b') 0)
 
 -- the values of a board, added up, are its sum
 abbrev pub ValuesAddUp : Type 0
-ValuesAddUp = (parts : List Part) (b : Position) → sum (values_of parts b) ≡ sum_of parts b
+ValuesAddUp = (parts : List Part) (b : BoardModel) → sum (values_of parts b) ≡ sum_of parts b
 
 -- where no two groups share a tile, a group has a tile exactly where it stands at the tile's place; where no group has
 -- the tile, the place is behind the last group
 abbrev pub ATileHasOneGroup : Type 0
 ATileHasOneGroup =
-    (groups : List Selection) (places : List ℕ) (tile : ℕ)
+    (groups : List GroupModel) (places : List ℕ) (tile : ℕ)
     → AreGroupsByTile groups places
     → tile < 25
-    → (AllPairs (λ g h. ShareNoTile g.tiles h.tiles) groups → (i : ℕ) (d : Selection) → i < length groups → Contains (slice_index_or groups i d).tiles tile ↔ (slice_index places tile ≡ i))
+    → (AllPairs (λ g h. ShareNoTile g.tiles h.tiles) groups → (i : ℕ) (d : GroupModel) → i < length groups → Contains (slice_index_or groups i d).tiles tile ↔ (slice_index places tile ≡ i))
     × (All (λ group. ¬ Contains group.tiles tile) groups → slice_index places tile ≡ length groups)
 
 -- where whole tables are potentials, a move changes what is said by the group that has the tile that moves, and by no other: to
 -- move any other tile costs a group nothing, so its value can neither fall nor rise; a folded one doesn't see the blank
 abbrev pub MovesChangeOneValue : Type 0
 MovesChangeOneValue =
-    (tables : Tables) (rule : CostRule) (b : Position) (m : Move) (b' : Position) (c : ℕ)
+    (tables : BoundModel) (rule : WeightsModel) (b : BoardModel) (m : Move) (b' : BoardModel) (c : ℕ)
     → IsTables tables
     → AreConsistent tables
     → IsBoard b
@@ -94,6 +94,6 @@ MovesChangeOneValue =
 -- a folded table tells both values by sparse place, or one of them is not told so, and not both
 abbrev pub BothAreToldOrNot : Type 0
 BothAreToldOrNot =
-    (before after : List ℕ) (fold : Fold)
+    (before after : List ℕ) (fold : FoldedModel)
     → (IsUntold before after fold ⊎ TellsBoth before after fold)
     × (TellsBoth before after fold → ¬ IsUntold before after fold)

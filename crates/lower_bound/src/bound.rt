@@ -1,20 +1,22 @@
 //! Tables for the groups of a partition, whole or folded, whose values are added.
 
-ghost use Rattle.std.specs.Prelude.{◌≡◌, ◌↔◌, ◌+◌, ◌*◌, ◌<◌, ◌≤◌, [], length, slice_get, All, Some, sum_by};
+ghost use Rattle.std.specs.Prelude.{◌≡◌, ◌↔◌, ◌+◌, ◌*◌, ◌<◌, ◌≤◌, [], length, slice_get, All, Some};
+ghost use Rattle.std.specs.Prelude.{sum_by};
 ghost use Rattle.std.specs.Prelude.{IsTrue, IsOk, IsErrOf, IfOk, MatchOption, Ok};
-ghost use Rattle.board.specs.Positions.{Position};
-ghost use Rattle.board.specs.CostRules.{CostRule};
+ghost use Rattle.board.specs.Boards.{BoardModel};
+ghost use Rattle.board.specs.Weights.{WeightsModel};
 ghost use Rattle.board.specs.Plans.{NothingBelow};
 ghost use Rattle.pattern_index.specs.Views.{view_of};
 ghost use Rattle.database_build.specs.Tables.{value_in};
 ghost use Rattle.database_build.specs.declared.faults.TableFault.{TableFault};
 ghost use Rattle.lower_bound.specs.Bounds.{sum_of};
-ghost use Rattle.lower_bound.specs.Folded.{AreFoldsOf, AreFolded, IsBefore, value_for, values_of};
+ghost use Rattle.lower_bound.specs.Folded.{AreFoldsOf, AreFolded, KeepsOtherTiles, value_for};
+ghost use Rattle.lower_bound.specs.Folded.{values_of};
 ghost use Rattle.lower_bound.specs.Tables.{IsTables, AreTablesOf, AreConsistent, ArePotentials};
 ghost use Rattle.lower_bound.specs.Tables.{parts_of};
 ghost use Rattle.lower_bound.specs.Lists.{AreListed, IsFoldedBound};
 ghost use Rattle.lower_bound.specs.Consecutive.{HasConsecutiveTables};
-ghost use Rattle.lower_bound.specs.Slides.{HasCells, HasSum, IsMoveOf, IsSlide};
+ghost use Rattle.lower_bound.specs.Slides.{HasCells, HasSum, IsMoveOf, IsTileMove};
 
 use crate::by_tile::find_groups_by_tile;
 use crate::consecutive::has_consecutive_groups;
@@ -60,13 +62,13 @@ pub enum TableList<'a> {
 }
 
 impl Model for Bound {
-    ghost use Rattle.lower_bound.specs.Tables.{Tables, IsTables};
+    ghost use Rattle.lower_bound.specs.Tables.{BoundModel, IsTables};
     ghost use Rattle.lower_bound.specs.Lists.{AreHeldWhole, tables_in};
     ghost use Rattle.lower_bound.specs.ByTile.{AreGroupsByTile};
     ghost use Rattle.lower_bound.specs.Consecutive.{HasConsecutiveGroups};
     ghost use Rattle.std.specs.Prelude.{◌↔◌, IsTrue};
 
-    ghost Value = { Tables };
+    ghost Value = { BoundModel };
 
     ghost view = { λ b. tables_in b.partition b.held };
 
@@ -124,7 +126,7 @@ impl Bound {
     pub fn folded(self, alloc: Global) -> Result<Self, OutOfMemory>
         ensures folded { IfOk result (IsFoldedBound self) }
         ensures kept { self.lookups ≡ [] → result ≡ Ok self }
-        ensures potentials { (rule : CostRule) (goal : Position) →
+        ensures potentials { (rule : WeightsModel) (goal : BoardModel) →
             ArePotentials rule goal self → IfOk result (ArePotentials rule goal) }
     {
         let Bound {
@@ -152,7 +154,7 @@ impl Bound {
         requires { board.now.grid ≡ self.now.split.grid }
         ensures value { result ≡ sum_of (parts_of self.now) board.now }
         ensures high { result ≤ GREATEST_SUM }
-        ensures nothing_below { (rule : CostRule) (goal : Position) →
+        ensures nothing_below { (rule : WeightsModel) (goal : BoardModel) →
             ArePotentials rule goal self.now → NothingBelow rule board.now goal result }
     {
         // The last clause needs that tiles and grid are a board's. Each `Board` is one, and the
@@ -167,12 +169,12 @@ impl Bound {
     /// The sum of a board, by the cell of each of its numbers (`cells_of`): as `of`, without making
     /// a view.
     pub fn sum_at(&self, cells: &[u8; 25]) -> u32
-        requires { (b : Position) × HasCells self.now.split.grid cells.now b }
-        ensures value { (b : Position) → HasCells self.now.split.grid cells.now b
+        requires { (b : BoardModel) × HasCells self.now.split.grid cells.now b }
+        ensures value { (b : BoardModel) → HasCells self.now.split.grid cells.now b
             → result ≡ sum_of (parts_of self.now) b }
         ensures high { result ≤ GREATEST_SUM }
-        ensures nothing_below { (b : Position) → HasCells self.now.split.grid cells.now b
-            → (rule : CostRule) (goal : Position) → ArePotentials rule goal self.now
+        ensures nothing_below { (b : BoardModel) → HasCells self.now.split.grid cells.now b
+            → (rule : WeightsModel) (goal : BoardModel) → ArePotentials rule goal self.now
             → NothingBelow rule b goal result }
     {
         match &self.held {
@@ -186,7 +188,7 @@ impl Bound {
         requires { board.now.grid ≡ self.now.split.grid }
         ensures value { result ≡ sum_of (parts_of self.now) board.now }
         ensures high { result ≤ GREATEST_SUM }
-        ensures nothing_below { (rule : CostRule) (goal : Position) →
+        ensures nothing_below { (rule : WeightsModel) (goal : BoardModel) →
             ArePotentials rule goal self.now → NothingBelow rule board.now goal result }
     {
         // The proof needs that this is a board. Each `KeyedBoard` is one, and `shape` says so.
@@ -202,11 +204,11 @@ impl Bound {
     // before and after. No other has another value then, where whole tables are consistent.
     fn sum_after(&self, sum: u32, cells: &[u8; 25], tile: u8) -> u32
         requires consistent { AreConsistent self.now }
-        requires slide { (b : Position) × (b' : Position)
-            × IsSlide self.now.split.grid cells.now tile b b'
+        requires slide { (b : BoardModel) × (b' : BoardModel)
+            × IsTileMove self.now.split.grid cells.now tile b b'
             × (sum ≡ sum_of (parts_of self.now) b) }
         requires low { sum ≤ GREATEST_SUM }
-        ensures value { (b b' : Position) → IsSlide self.now.split.grid cells.now tile b b'
+        ensures value { (b b' : BoardModel) → IsTileMove self.now.split.grid cells.now tile b b'
             → sum ≡ sum_of (parts_of self.now) b → result ≡ sum_of (parts_of self.now) b' }
         ensures high { result ≤ sum + NO_VALUE }
     {
@@ -243,10 +245,10 @@ impl Bound {
     #[tactic(auto, using(crate::proofs::ConsecutiveLemmas::held_consecutive))]
     pub fn sum_after_move(&self, sum: u32, reading: &Reading, tile: u8) -> u32
         requires consistent { AreConsistent self.now }
-        requires moved { (b' : Position) × IsMoveOf tile reading.now b' }
+        requires moved { (b' : BoardModel) × IsMoveOf tile reading.now b' }
         requires sum { HasSum self.now reading.now sum }
         requires low { sum ≤ GREATEST_SUM }
-        ensures value { (b' : Position) → IsMoveOf tile reading.now b'
+        ensures value { (b' : BoardModel) → IsMoveOf tile reading.now b'
             → result ≡ sum_of (parts_of self.now) b' }
         ensures high { result ≤ sum + NO_VALUE }
     {
@@ -260,10 +262,10 @@ impl Bound {
     fn sum_after_by_digits(&self, sum: u32, board: &KeyedBoard, tile: u8) -> u32
         requires digits { HasConsecutiveTables self.now }
         requires consistent { AreConsistent self.now }
-        requires moved { (b' : Position) × IsMoveOf tile board.now b' }
+        requires moved { (b' : BoardModel) × IsMoveOf tile board.now b' }
         requires sum { HasSum self.now board.now sum }
         requires low { sum ≤ GREATEST_SUM }
-        ensures value { (b' : Position) → IsMoveOf tile board.now b'
+        ensures value { (b' : BoardModel) → IsMoveOf tile board.now b'
             → result ≡ sum_of (parts_of self.now) b' }
         ensures high { result ≤ sum + NO_VALUE }
     {
@@ -282,10 +284,10 @@ impl Bound {
     #[inline(never)]
     fn sum_after_by_cells(&self, sum: u32, reading: &Reading, tile: u8) -> u32
         requires consistent { AreConsistent self.now }
-        requires moved { (b' : Position) × IsMoveOf tile reading.now b' }
+        requires moved { (b' : BoardModel) × IsMoveOf tile reading.now b' }
         requires sum { HasSum self.now reading.now sum }
         requires low { sum ≤ GREATEST_SUM }
-        ensures value { (b' : Position) → IsMoveOf tile reading.now b'
+        ensures value { (b' : BoardModel) → IsMoveOf tile reading.now b'
             → result ≡ sum_of (parts_of self.now) b' }
         ensures high { result ≤ sum + NO_VALUE }
     {
@@ -309,7 +311,7 @@ impl Bound {
     pub fn parts_after(&self, parts: &Parts, board: &Board, tile: u8) -> Parts
         requires grid { board.now.grid ≡ self.now.split.grid }
         requires folded { self.now.lookups ≡ [] }
-        requires before { (before : Position) × IsBefore before board.now tile
+        requires before { (before : BoardModel) × KeepsOtherTiles before board.now tile
             × (parts.now ≡ values_of (parts_of self.now) before) }
         ensures { result ≡ values_of (parts_of self.now) board.now }
     {

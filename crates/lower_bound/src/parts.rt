@@ -1,8 +1,8 @@
 //! The values of the groups of a board, one by one.
 
 ghost use Rattle.std.specs.Prelude.{◌≡◌, ◌*◌, ◌≤◌, length, map, sum, All};
-ghost use Rattle.board.specs.Positions.{Position};
-ghost use Rattle.lower_bound.specs.Folded.{folded_parts, values_of, value_for, IsBefore};
+ghost use Rattle.board.specs.Boards.{BoardModel};
+ghost use Rattle.lower_bound.specs.Folded.{folded_parts, values_of, value_for, KeepsOtherTiles};
 
 use crate::bound::GREATEST_SUM;
 use board::Board;
@@ -52,7 +52,7 @@ impl Parts {
     /// group of that tile is looked up.
     pub fn after(&self, folds: &[Folded], board: &Board, tile: u8) -> Self
         requires grid { All (λ fold. fold.selection.grid ≡ board.now.grid) folds.now }
-        requires before { (before : Position) × IsBefore before board.now tile
+        requires before { (before : BoardModel) × KeepsOtherTiles before board.now tile
             × (self.now ≡ values_of (folded_parts folds.now) before) }
         ensures { result ≡ values_of (folded_parts folds.now) board.now }
     {
@@ -90,7 +90,7 @@ fn add_up(values: &[u16]) -> u32
 // Looks up anew the value of the group that has the tile, if one has.
 fn renew(folds: &[Folded], board: &Board, tile: u8, values: &mut [u16])
     requires grid { All (λ fold. fold.selection.grid ≡ board.now.grid) folds.now }
-    requires before { (before : Position) × IsBefore before board.now tile
+    requires before { (before : BoardModel) × KeepsOtherTiles before board.now tile
         × (values.old ≡ map (value_for before) folds.now) }
     ensures { values.new ≡ map (value_for board.now) folds.now }
 {

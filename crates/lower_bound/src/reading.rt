@@ -1,7 +1,7 @@
 //! What tables read of a board: digits of its search key, or the cells of its numbers.
 
 ghost use Rattle.std.specs.Prelude.{◌≡◌, ◌*◌, ◌≤◌, length, sum_by, All, IfSome};
-ghost use Rattle.board.specs.Positions.{Position, IsBoard};
+ghost use Rattle.board.specs.Boards.{BoardModel, IsBoard};
 ghost use Rattle.pattern_index.specs.Sparse.{slot_in};
 ghost use Rattle.pattern_index.specs.Views.{IsView, view_of};
 ghost use Rattle.database_build.specs.Tables.{value_in};
@@ -23,10 +23,10 @@ pub struct Reading {
 
 impl Model for Reading {
     ghost use Rattle.std.specs.Prelude.{IfSome};
-    ghost use Rattle.board.specs.Positions.{Position};
+    ghost use Rattle.board.specs.Boards.{BoardModel};
     ghost use Rattle.lower_bound.specs.Slides.{AreCellsOf};
 
-    ghost Value = { Position };
+    ghost Value = { BoardModel };
 
     ghost view = { λ r. r.board };
 
@@ -102,7 +102,7 @@ fn value_by_digits(table: &Table, board: &KeyedBoard) -> u16
 // by a slot of digits of the board's search key.
 pub(crate) fn values_by_digits(table: &Table, board: &KeyedBoard, tile: u8) -> (u16, u16)
     requires { IsConsecutiveMove table.now.selection tile board.now }
-    ensures values { (b' : Position) → IsMoveOf tile board.now b'
+    ensures values { (b' : BoardModel) → IsMoveOf tile board.now b'
         → result ≡ (
           value_in table.now (view_of table.now.selection.tiles board.now),
           value_in table.now (view_of table.now.selection.tiles b'),

@@ -1,6 +1,7 @@
 //! What tables say before a tile goes to the blank's cell, and after it.
 
-ghost use Rattle.std.specs.Prelude.{◌≡◌, ◌-◌, ◌+◌, ◌*◌, ◌<◌, ◌≤◌, length, sum_by, All, IfSome, IfNone};
+ghost use Rattle.std.specs.Prelude.{◌≡◌, ◌-◌, ◌+◌, ◌*◌, ◌<◌, ◌≤◌, length, sum_by, All, IfSome};
+ghost use Rattle.std.specs.Prelude.{IfNone};
 ghost use Rattle.pattern_index.specs.Views.{view_at, exchanged};
 ghost use Rattle.database_build.specs.Tables.{value_in};
 ghost use Rattle.lower_bound.specs.Folded.{value_by};

@@ -45,9 +45,9 @@ pub struct Allowance<C: Counting> {
 impl<C: Counting> Model for Allowance<C> {
     ghost use Rattle.std.specs.Prelude.{◌≡◌, ◌≤◌};
     ghost use Rattle.world_model.specs.declared.limits.TheConstants.{GREATEST_GRANT};
-    ghost use Rattle.message_ledger.specs.Spending.{Spending};
+    ghost use Rattle.message_ledger.specs.Spending.{AllowanceModel};
 
-    ghost Value = { Spending };
+    ghost Value = { AllowanceModel };
 
     ghost view = { λ a. record { granted = a.granted; left = a.left } };
 
@@ -181,9 +181,9 @@ pub struct Gathered<M: Ledger> {
 }
 
 impl<M: Ledger> Model for Gathered<M> {
-    ghost use Rattle.message_ledger.specs.Spending.{Gathering};
+    ghost use Rattle.message_ledger.specs.Spending.{GatheredModel};
 
-    ghost Value = { Gathering };
+    ghost Value = { GatheredModel };
 
     ghost view = { λ g. record { tickets = g.share.parts; amount = g.share.amount } };
 }

@@ -4,11 +4,11 @@ use Rattle.std.specs.Prelude.{IfSome, sum_by, option_map}
 use Rattle.std.proofs.lemmas.Bool.{cases_Bool, cond-true, cond-false}
 use Rattle.board.specs.declared.moves.Move.{Move}
 use Rattle.board.specs.declared.moves.Move.TheVariants.{U, L, R, D}
-use Rattle.board.specs.CostRules.{CostRule, weight_of}
-use Rattle.board.specs.Grids.{Grid, cell_count}
+use Rattle.board.specs.Weights.{WeightsModel, weight_of}
+use Rattle.board.specs.Shapes.{ShapeModel, cell_count}
 use Rattle.board.specs.Neighbours.{LiesTowards, neighbour}
 use Rattle.board.specs.Moves.{successor_at, blank_exchange}
-use Rattle.board.specs.Positions.{Position, IsBoard, blank_of}
+use Rattle.board.specs.Boards.{BoardModel, IsBoard, blank_of}
 use Rattle.board.proofs.MoveLemmas.{blank_after, cell_below, exchange_board}
 use Rattle.board.proofs.NeighbourLemmas.{neighbour_lies}
 use Rattle.board.proofs.StepLemmas.{blank_stands}
@@ -16,7 +16,7 @@ use Rattle.search_keys.specs.SearchKeys.{search_key}
 use Rattle.owners.specs.Slides.{IsMoved}
 use Rattle.world_model.specs.declared.parts.Item.{Item}
 use Rattle.lower_bound.specs.Slides.{IsMoveOf}
-use Rattle.successor_sums.specs.ByMoves.{FourOf, OfFour, before, entries_of, of_move}
+use Rattle.successor_sums.specs.ByMoves.{ByMovesModel, OfFour, before, entries_of, of_move}
 use Rattle.successor_sums.specs.Unpacked.{is_left_out, but}
 use Rattle.successor_sums.proofs.EntryLemmas.{absent_too, exits_of, found, led_by, of_four_by}
 use Rattle.offers.specs.declared.offer.Offer.{Offer}
@@ -26,7 +26,7 @@ use Rattle.std.proofs.lemmas.List.Sums.{sum_by-cons, sum_by-drop_more}
 use Rattle.offers.specs.Room.{go, goes}
 
 -- ---- one move, which takes the blank to a cell beside it
-module _ (b : Position) (m : Move) (to : ℕ) (board : IsBoard b) (beside : neighbour b.grid m (blank_of b) ≡ Some to) where
+module _ (b : BoardModel) (m : Move) (to : ℕ) (board : IsBoard b) (beside : neighbour b.grid m (blank_of b) ≡ Some to) where
   lies : LiesTowards b.grid m (blank_of b) to
   lies = (neighbour_lies b.grid m (blank_of b) to (blank_stands b board).0).0 beside
 
@@ -37,7 +37,7 @@ module _ (b : Position) (m : Move) (to : ℕ) (board : IsBoard b) (beside : neig
   board_after = exchange_board b (blank_of b) to board (blank_stands b board).0 below
 
   -- it moves the tile on that cell
-  pub is_move : (rule : CostRule) (tile : ℕ) → tile ≡ slice_index b.tiles to → IsMoveOf tile b (blank_exchange b to)
+  pub is_move : (rule : WeightsModel) (tile : ℕ) → tile ≡ slice_index b.tiles to → IsMoveOf tile b (blank_exchange b to)
   is_move rule tile is = record {
     rule = rule;
     direction = m;
@@ -47,12 +47,12 @@ module _ (b : Position) (m : Move) (to : ℕ) (board : IsBoard b) (beside : neig
   }
 
   -- which slides onto the blank's cell
-  pub is_moved : (shape : Grid) (blank tile key : ℕ) → shape ≡ b.grid → blank ≡ blank_of b → tile ≡ slice_index b.tiles to → 0 < tile → key ≡ search_key (blank_exchange b to) → IsMoved b (record { shape = shape; key = key; slide = record { tile = tile; from = to; to = blank } })
+  pub is_moved : (shape : ShapeModel) (blank tile key : ℕ) → shape ≡ b.grid → blank ≡ blank_of b → tile ≡ slice_index b.tiles to → 0 < tile → key ≡ search_key (blank_exchange b to) → IsMoved b (record { shape = shape; key = key; slide = record { tile = tile; from = to; to = blank } })
   is_moved shape blank tile key sides at is some packed = record {
     slide = record {
       board = board;
       sides = sym sides;
-      within = subst (λ (g : Grid). to < cell_count g) (sym sides) below;
+      within = subst (λ (g : ShapeModel). to < cell_count g) (sym sides) below;
       tile = sym is;
       some = some;
       blank = sym at;
@@ -61,17 +61,17 @@ module _ (b : Position) (m : Move) (to : ℕ) (board : IsBoard b) (beside : neig
   }
 
   -- an offer of the board to which it leads
-  pub is_offered : (rule : CostRule) (cost : ℕ) (sum owner : Position → ℕ) (offer : Offer) → offer.key ≡ search_key (blank_exchange b to) → offer.cost ≡ cost + weight_of rule (slice_index b.tiles to) → offer.f ≡ cost + weight_of rule (slice_index b.tiles to) + sum (blank_exchange b to) → offer.owner ≡ owner (blank_exchange b to) → IsOffered sum owner (item_by rule b cost m) (Some offer)
+  pub is_offered : (rule : WeightsModel) (cost : ℕ) (sum owner : BoardModel → ℕ) (offer : Offer) → offer.key ≡ search_key (blank_exchange b to) → offer.cost ≡ cost + weight_of rule (slice_index b.tiles to) → offer.f ≡ cost + weight_of rule (slice_index b.tiles to) + sum (blank_exchange b to) → offer.owner ≡ owner (blank_exchange b to) → IsOffered sum owner (item_by rule b cost m) (Some offer)
   is_offered rule cost sum owner offer key reached f owned = rw beside (record { key = key; cost = reached; adds = f; owned = owned })
 
 -- ---- all moves
 
 -- the item of a move by the cell to which the blank goes
-abbrev item_at : CostRule → Position → ℕ → Move → Option ℕ → Option Item
+abbrev item_at : WeightsModel → BoardModel → ℕ → Move → Option ℕ → Option Item
 item_at rule b cost m to = option_map (λ next. record { board = next.0; cost = cost + next.1; via = m }) (option_map (successor_at rule b) to)
 
 -- what the moves offer that lead to a cell, and no other does, is what they offer but for the move that is left out
-pub all_offered : (rule : CostRule) (left_out : Option Move) (b : Position) (cost : ℕ) (sum owner : Position → ℕ) (exits : FourOf ℕ) (offers : Offers) → exits ≡ exits_of left_out b → length (entries_of offers) ≡ length (entries_of exits) → ((j : ℕ) (d : Move × Offer) (e : Move × ℕ) → j < length (entries_of exits) → (get_or (entries_of offers) j d).0 ≡ (get_or (entries_of exits) j e).0) → ((j : ℕ) (d : Move × Offer) → j < length (entries_of exits) → IsOffered sum owner (item_by rule b cost (get_or (entries_of offers) j d).0) (Some (get_or (entries_of offers) j d).1)) → AreOffered sum owner (but left_out (item_by rule b cost)) offers
+pub all_offered : (rule : WeightsModel) (left_out : Option Move) (b : BoardModel) (cost : ℕ) (sum owner : BoardModel → ℕ) (exits : ByMovesModel ℕ) (offers : Offers) → exits ≡ exits_of left_out b → length (entries_of offers) ≡ length (entries_of exits) → ((j : ℕ) (d : Move × Offer) (e : Move × ℕ) → j < length (entries_of exits) → (get_or (entries_of offers) j d).0 ≡ (get_or (entries_of exits) j e).0) → ((j : ℕ) (d : Move × Offer) → j < length (entries_of exits) → IsOffered sum owner (item_by rule b cost (get_or (entries_of offers) j d).0) (Some (get_or (entries_of offers) j d).1)) → AreOffered sum owner (but left_out (item_by rule b cost)) offers
 all_offered rule left_out b cost sum owner exits offers is all moves offered = record { up = one U; left = one L; right = one R; down = one D }
   where
     nothing : IsOffered sum owner None None
@@ -79,7 +79,7 @@ all_offered rule left_out b cost sum owner exits offers is all moves offered = r
 
     none : (m : Move) → of_move exits m ≡ None → IsOffered sum owner (but left_out (item_by rule b cost) m) None
     none m absent =
-        let at : but left_out (λ k. neighbour b.grid k (blank_of b)) m ≡ None = sym (of_four_by (but left_out (λ k. neighbour b.grid k (blank_of b))) m) ∙ ap (λ (four : FourOf ℕ). of_move four m) (sym is) ∙ absent in
+        let at : but left_out (λ k. neighbour b.grid k (blank_of b)) m ≡ None = sym (of_four_by (but left_out (λ k. neighbour b.grid k (blank_of b))) m) ∙ ap (λ (four : ByMovesModel ℕ). of_move four m) (sym is) ∙ absent in
         ⊎_elim
         (λ (out : is_left_out left_out m ≡ true). subst (λ (item : Option Item). IsOffered sum owner item None) (sym (cond-true _ _ _ out)) nothing)
         (λ (stays : is_left_out left_out m ≡ false).
@@ -121,7 +121,7 @@ before_gives : {A : Type 0} (P : A → Type 0) (d : Move × A) (m : Move) (item 
 before_gives P d m None others all = (tt, all)
 before_gives P d m (Some x) others all = (all 0 (omega arith), λ i within. all (suc i) (omega (arith, within)))
 
-module _ {A : Type 0} (four : FourOf A) (d : Move × A) where
+module _ {A : Type 0} (four : ByMovesModel A) (d : Move × A) where
   -- each entry is what stands for its move
   pub entry_is : (i : ℕ) → i < length (entries_of four) → of_move four (get_or (entries_of four) i d).0 ≡ Some (get_or (entries_of four) i d).1
   entry_is =
@@ -141,12 +141,12 @@ module _ {A : Type 0} (four : FourOf A) (d : Move × A) where
       (up.0, left.0, right.0, down.0)
 
 -- what is left of the entries begins with one, and goes on with what is left after it
-pub entries_on : {A : Type 0} (four : FourOf A) (i : ℕ) (entry : Move × A) → ((d : Move × A) → get_or (entries_of four) i d ≡ entry) → i < length (entries_of four) → drop i (entries_of four) ≡ entry ∷ drop (i + 1) (entries_of four)
+pub entries_on : {A : Type 0} (four : ByMovesModel A) (i : ℕ) (entry : Move × A) → ((d : Move × A) → get_or (entries_of four) i d ≡ entry) → i < length (entries_of four) → drop i (entries_of four) ≡ entry ∷ drop (i + 1) (entries_of four)
 entries_on {A = A} four i entry is within =
     drop_more (entries_of four) i entry within ∙ ap (λ (e : Move × A). e ∷ drop (i + 1) (entries_of four)) (is entry)
 
 -- what holds of what is there holds of what stands for a move
-pub of_one : {A : Type 0} (P : A → Type 0) (four : FourOf A) (m : Move) → OfFour P four → IfSome (of_move four m) P
+pub of_one : {A : Type 0} (P : A → Type 0) (four : ByMovesModel A) (m : Move) → OfFour P four → IfSome (of_move four m) P
 of_one P four U all = all.0
 of_one P four L all = all.1
 of_one P four R all = all.2

@@ -1,16 +1,16 @@
 -- A board whose moves are offered, and the search in which they are.
 use Rattle.std.specs.Prelude.{ℕ, ◌≡◌, ◌<◌, ◌≤◌, ◌==◌, if◌then◌else◌, Option}
 use Rattle.board.specs.declared.costs.TheConstants.{GREATEST_EXPANDED_COST}
-use Rattle.board.specs.CostRules.{CostRule}
-use Rattle.board.specs.Positions.{Position, IsBoard}
+use Rattle.board.specs.Weights.{WeightsModel}
+use Rattle.board.specs.Boards.{BoardModel, IsBoard}
 use Rattle.lower_bound.specs.Bounds.{sum_of}
-use Rattle.lower_bound.specs.Tables.{Tables, AreConsistent, parts_of}
+use Rattle.lower_bound.specs.Tables.{BoundModel, AreConsistent, parts_of}
 use Rattle.offers.specs.declared.offer.OwnersBy.{OwnersBy}
 use Rattle.offers.specs.declared.offer.OwnersBy.TheVariants.{OneWorker, Spread}
 
 -- a board whose moves are offered, what it costs to reach it, and its sum
 pub record OriginModel : Type 0 where
-  pub board : Position
+  pub board : BoardModel
   pub cost : ℕ
   pub sum : ℕ
 
@@ -21,8 +21,8 @@ pub record IsOrigin (origin : OriginModel) : Type 0 where
 
 -- what moves cost, the tables that guide the search, how boards are owned, and how many workers there are
 pub record TermsModel (S : Type 0) : Type 0 where
-  pub rule : CostRule
-  pub tables : Tables
+  pub rule : WeightsModel
+  pub tables : BoundModel
   pub owners : S
   pub workers : ℕ
 
@@ -38,15 +38,15 @@ pub record Fits {S : Type 0} (terms : TermsModel S) (origin : OriginModel) : Typ
   pub sum : origin.sum ≡ sum_of (parts_of terms.tables) origin.board
 
 -- how the owners of a board's successors are found: one worker owns them all, and among more a spread is asked, by the board's hash
-abbrev pub owners_by : (Position → Option ℕ) → ℕ → Position → OwnersBy
+abbrev pub owners_by : (BoardModel → Option ℕ) → ℕ → BoardModel → OwnersBy
 owners_by hash_of n b = if n == 1 then OneWorker else Spread (hash_of b)
 
 -- so the owners of this board's successors are found
-abbrev pub AreFoundBy : {S : Type 0} → (S → Position → Option ℕ) → TermsModel S → Position → OwnersBy → Type 0
+abbrev pub AreFoundBy : {S : Type 0} → (S → BoardModel → Option ℕ) → TermsModel S → BoardModel → OwnersBy → Type 0
 AreFoundBy hash_of terms b by = by ≡ owners_by (hash_of terms.owners) terms.workers b
 
 -- what the offers of a board have in common: it fits the search, it is what the tables read, and so its successors' owners are found
-pub record IsReadFor {S : Type 0} (hash_of : S → Position → Option ℕ) (terms : TermsModel S) (origin : OriginModel) (reading : Position) (by : OwnersBy) : Type 0 where
+pub record IsReadFor {S : Type 0} (hash_of : S → BoardModel → Option ℕ) (terms : TermsModel S) (origin : OriginModel) (reading : BoardModel) (by : OwnersBy) : Type 0 where
   pub board : IsBoard origin.board
   pub fits : Fits terms origin
   pub read : reading ≡ origin.board

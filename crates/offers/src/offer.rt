@@ -3,7 +3,7 @@
 ghost use Rattle.std.specs.Prelude.{◌≡◌, ◌<◌, Some};
 ghost use Rattle.board.specs.declared.moves.Move.{Move};
 ghost use Rattle.board.specs.Neighbours.{neighbour};
-ghost use Rattle.board.specs.Positions.{Position, blank_of};
+ghost use Rattle.board.specs.Boards.{BoardModel, blank_of};
 ghost use Rattle.lower_bound.specs.Bounds.{sum_of};
 ghost use Rattle.lower_bound.specs.Tables.{parts_of};
 ghost use Rattle.search_keys.specs.SearchKeys.{HasSearchKey};
@@ -134,8 +134,8 @@ fn offer_by<S: Spread>(
 
 // The owner of the board after a slide.
 fn owner_after<S: Spread>(terms: &Terms<'_, S>, owners_by: OwnersBy, moved: Moved) -> usize
-    requires { (b : Position) × IsMoved b moved × AreFoundBy S.hash_of terms.now b owners_by }
-    ensures value { (b : Position) → HasSearchKey moved.shape moved.key b
+    requires { (b : BoardModel) × IsMoved b moved × AreFoundBy S.hash_of terms.now b owners_by }
+    ensures value { (b : BoardModel) → HasSearchKey moved.shape moved.key b
         → result ≡ S.owner_of terms.now.owners terms.now.workers b }
     ensures within { result < terms.now.workers }
 {

@@ -7,7 +7,7 @@ use Rattle.std.specs.declared.vec.Vec.{Vec}
 use Rattle.std.proofs.lemmas.Bool.{cases_eq, cases_lt}
 use Rattle.std.proofs.lemmas.List.{take_more, take_all, get_or-set_same, get_or-set_other, get_or-map, length-map, get_or_past, get_or_append_left, get_or_push, length_push, nil_from_length}
 use Rattle.std.proofs.Math.Seq.{map-set_same}
-use Rattle.open_buckets.specs.OpenLists.{entries_at, places_at, NothingWaits, OthersStay, Puts, Takes, Sorts, IsNext}
+use Rattle.open_buckets.specs.OpenLists.{entries_at, places_at, NothingWaits, OthersStay, PutsEntry, TakesEntry, Sorts, IsNextEntry}
 use Rattle.open_buckets.specs.Buckets.{list_of}
 
 module _ {K Z : Type 0} where
@@ -70,7 +70,7 @@ module _ {K Z : Type 0} where
       places_old : places_at (list_of bs) f ≡ old.cap - old.len
       places_old = places_in bs f old lt ∙ ap (λ (v : Vec (K × ℕ) Z). v.cap - v.len) (sym is)
 
-      pub put_in : (e : K × ℕ) → b.items ≡ old.items ++ e ∷ [] → old.cap ≤ b.cap → Puts f e (list_of bs) (list_of (set bs f b))
+      pub put_in : (e : K × ℕ) → b.items ≡ old.items ++ e ∷ [] → old.cap ≤ b.cap → PutsEntry f e (list_of bs) (list_of (set bs f b))
       put_in e items more = record {
         here = entries_set ∙ items ∙ ap (λ xs. xs ++ e ∷ []) (sym entries_old);
         places =
@@ -83,7 +83,7 @@ module _ {K Z : Type 0} where
         others = others_set;
       }
 
-      pub taken_from : (e : K × ℕ) → old.items ≡ b.items ++ e ∷ [] → b.cap - b.len ≡ old.cap - old.len + 1 → ((h : ℕ) → h < f → entries_at (list_of bs) h ≡ []) → Takes f e (list_of bs) (list_of (set bs f b))
+      pub taken_from : (e : K × ℕ) → old.items ≡ b.items ++ e ∷ [] → b.cap - b.len ≡ old.cap - old.len + 1 → ((h : ℕ) → h < f → entries_at (list_of bs) h ≡ []) → TakesEntry f e (list_of bs) (list_of (set bs f b))
       taken_from e items spare before = record {
         here = entries_old ∙ items ∙ ap (λ xs. xs ++ e ∷ []) (sym entries_set);
         least = before;
@@ -150,7 +150,7 @@ module _ {K Z : Type 0} where
   empty_at bs f b lt is none = entries_in bs f b lt ∙ ap (λ (v : Vec (K × ℕ) Z). v.items) (sym is) ∙ nil_from_length b.items (sym b.ok.0 ∙ none)
 
   -- the last item of a bucket
-  pub next_in : (bs : List (Vec (K × ℕ) Z)) (f : ℕ) (b : Vec (K × ℕ) Z) (entry : K × ℕ) → f < length bs → b ≡ get_or bs f b → vec_len b ≢ 0 → entry ≡ get_or b.items (vec_len b - 1) entry → NothingWaits (list_of bs) f → IsNext f entry (list_of bs)
+  pub next_in : (bs : List (Vec (K × ℕ) Z)) (f : ℕ) (b : Vec (K × ℕ) Z) (entry : K × ℕ) → f < length bs → b ≡ get_or bs f b → vec_len b ≢ 0 → entry ≡ get_or b.items (vec_len b - 1) entry → NothingWaits (list_of bs) f → IsNextEntry f entry (list_of bs)
   next_in bs f b entry lt is some read before =
       let size : length b.items ≡ b.len - 1 + 1 = let len = b.ok.0 in omega arith in
       let cut : take (length b.items) b.items ≡ take (b.len - 1) b.items ++ get_or b.items (b.len - 1) entry ∷ [] = ap (λ n. take n b.items) size ∙ take_more b.items (b.len - 1) entry (omega arith) in

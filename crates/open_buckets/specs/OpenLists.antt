@@ -4,56 +4,56 @@ use Rattle.std.specs.Prelude.{ℕ, ◌≡◌, ◌≢◌, ◌<◌, ◌≤◌, ◌
 use Rattle.std.specs.List.Sorted.{IsNonDecreasingBy}
 
 -- Entries and places, both by f.
-pub record OpenList (K : Type 0) : Type 0 where
+pub record OpenModel (K : Type 0) : Type 0 where
   pub entries : List (List (K × ℕ))
   pub places : List ℕ
 
 -- no entry, and no place for one
-abbrev pub empty_list : {K : Type 0} → OpenList K
+abbrev pub empty_list : {K : Type 0} → OpenModel K
 empty_list = record { entries = []; places = [] }
 
 -- the entries at f, of which the last is taken first; one that was put there twice stands there twice
-abbrev pub entries_at : {K : Type 0} → OpenList K → ℕ → List (K × ℕ)
+abbrev pub entries_at : {K : Type 0} → OpenModel K → ℕ → List (K × ℕ)
 entries_at list f = slice_index_or list.entries f []
 
 -- for how many more entries there is a place at f
-abbrev pub places_at : {K : Type 0} → OpenList K → ℕ → ℕ
+abbrev pub places_at : {K : Type 0} → OpenModel K → ℕ → ℕ
 places_at list f = slice_index list.places f
 
 -- no entry is below f
-abbrev pub NothingWaits : {K : Type 0} → OpenList K → ℕ → Type 0
+abbrev pub NothingWaits : {K : Type 0} → OpenModel K → ℕ → Type 0
 NothingWaits list f = (h : ℕ) → h < f → entries_at list h ≡ []
 
 -- all but f is as it was
-abbrev pub OthersStay : {K : Type 0} → ℕ → OpenList K → OpenList K → Type 0
+abbrev pub OthersStay : {K : Type 0} → ℕ → OpenModel K → OpenModel K → Type 0
 OthersStay f old new = (h : ℕ) → h ≢ f → (entries_at new h ≡ entries_at old h) × (places_at new h ≡ places_at old h)
 
 -- an entry is added at f, and takes one place at most
-pub record Puts {K : Type 0} (f : ℕ) (entry : K × ℕ) (old new : OpenList K) : Type 0 where
+pub record PutsEntry {K : Type 0} (f : ℕ) (entry : K × ℕ) (old new : OpenModel K) : Type 0 where
   pub here : entries_at new f ≡ entries_at old f ++ entry ∷ []
   pub places : places_at old f ≤ places_at new f + 1
   pub others : OthersStay f old new
 
 -- the entries at f are put in order of their costs
-pub record Sorts {K : Type 0} (f : ℕ) (old new : OpenList K) : Type 0 where
+pub record Sorts {K : Type 0} (f : ℕ) (old new : OpenModel K) : Type 0 where
   pub moved : IsPermutation (entries_at old f) (entries_at new f)
   pub sorted : IsNonDecreasingBy (λ (entry : K × ℕ). entry.1) (entries_at new f)
   pub places : places_at new f ≡ places_at old f
   pub others : OthersStay f old new
 
 -- an entry is taken out at f, which is the least f of all, and gives its place back
-pub record Takes {K : Type 0} (f : ℕ) (entry : K × ℕ) (old new : OpenList K) : Type 0 where
+pub record TakesEntry {K : Type 0} (f : ℕ) (entry : K × ℕ) (old new : OpenModel K) : Type 0 where
   pub here : entries_at old f ≡ entries_at new f ++ entry ∷ []
   pub least : NothingWaits old f
   pub places : places_at new f ≡ places_at old f + 1
   pub others : OthersStay f old new
 
 -- the entry that is taken next: the last one at f, which is the least f of all
-pub record IsNext {K : Type 0} (f : ℕ) (entry : K × ℕ) (list : OpenList K) : Type 0 where
+pub record IsNextEntry {K : Type 0} (f : ℕ) (entry : K × ℕ) (list : OpenModel K) : Type 0 where
   pub last : (rest : List (K × ℕ)) × (entries_at list f ≡ rest ++ entry ∷ [])
   pub least : NothingWaits list f
 
 -- the least f of all entries; none where nothing waits
-abbrev pub IsLowest : {K : Type 0} → OpenList K → Option ℕ → Type 0
-IsLowest list None = (h : ℕ) → entries_at list h ≡ []
-IsLowest list (Some f) = (entries_at list f ≢ []) × NothingWaits list f
+abbrev pub IsLeastF : {K : Type 0} → OpenModel K → Option ℕ → Type 0
+IsLeastF list None = (h : ℕ) → entries_at list h ≡ []
+IsLeastF list (Some f) = (entries_at list f ≢ []) × NothingWaits list f

@@ -1,9 +1,10 @@
 //! Entries in buckets, and a cursor to the lowest of them.
 
-ghost use Rattle.std.specs.Prelude.{◌≡◌, ◌≢◌, ◌<◌, ◌≤◌, ◌+◌, ◌^◌, ℕ, OnOk, OnErr, MatchOption, IsTrue, ◌↔◌};
+ghost use Rattle.std.specs.Prelude.{◌≡◌, ◌≢◌, ◌<◌, ◌≤◌, ◌+◌, ◌^◌, ℕ, OnOk, OnErr, MatchOption};
+ghost use Rattle.std.specs.Prelude.{IsTrue, ◌↔◌};
 ghost use Rattle.std.specs.Prelude.{vec_len, vec_capacity};
 ghost use Rattle.open_buckets.specs.OpenLists.{empty_list, entries_at, places_at, NothingWaits};
-ghost use Rattle.open_buckets.specs.OpenLists.{Puts, Takes, Sorts, IsNext, IsLowest};
+ghost use Rattle.open_buckets.specs.OpenLists.{PutsEntry, TakesEntry, Sorts, IsNextEntry, IsLeastF};
 
 use memory::OutOfMemory;
 use std::alloc::Global;
@@ -27,14 +28,14 @@ pub struct Open<K> {
 }
 
 impl<K> Model for Open<K> {
-    ghost use Rattle.open_buckets.specs.OpenLists.{OpenList};
-    ghost use Rattle.open_buckets.specs.Buckets.{list_of, IsSound};
+    ghost use Rattle.open_buckets.specs.OpenLists.{OpenModel};
+    ghost use Rattle.open_buckets.specs.Buckets.{list_of, AreSoundBuckets};
 
-    ghost Value = { OpenList K };
+    ghost Value = { OpenModel K };
 
     ghost view = { λ o. list_of o.buckets.items };
 
-    ghost invariant = { λ o. IsSound o.buckets.items o.cursor };
+    ghost invariant = { λ o. AreSoundBuckets o.buckets.items o.cursor };
 }
 
 // Makes places for this many more items. Where the list has to grow, it is for PLACES_AT_ONCE at
@@ -111,7 +112,7 @@ impl<K: Copy> Open<K> {
     /// Adds an entry at an f that has a place.
     pub fn put(&mut self, f: u32, key: K, g: u32)
         requires { 0 < places_at self.old f }
-        ensures { Puts f (key, g) self.old self.new }
+        ensures { PutsEntry f (key, g) self.old self.new }
     {
         let place = f as usize;
         let bucket = &mut self.buckets[place];
@@ -139,7 +140,7 @@ impl<K: Copy> Open<K> {
     /// place stays for another one.
     pub fn take_lowest(&mut self, below: u32) -> Option<(K, u32)>
         ensures { MatchOption result ((self.new ≡ self.old) × NothingWaits self.old below)
-            (λ entry. (f : ℕ) × (f < below) × Takes f entry self.old self.new) }
+            (λ entry. (f : ℕ) × (f < below) × TakesEntry f entry self.old self.new) }
     {
         let limit = below as usize;
         'cursor: while self.cursor < limit {
@@ -158,7 +159,7 @@ impl<K: Copy> Open<K> {
     /// The entry that `take_lowest` would take.
     pub fn peek_lowest(&self, below: u32) -> Option<(K, u32)>
         ensures { MatchOption result (NothingWaits self.now below)
-            (λ entry. (f : ℕ) × (f < below) × IsNext f entry self.now) }
+            (λ entry. (f : ℕ) × (f < below) × IsNextEntry f entry self.now) }
     {
         let limit = below as usize;
         let mut place = self.cursor;
@@ -177,7 +178,7 @@ impl<K: Copy> Open<K> {
 
     /// The least f of all entries.
     pub fn lowest(&self) -> Option<u32>
-        ensures { IsLowest self.now result }
+        ensures { IsLeastF self.now result }
     {
         let mut place = self.cursor;
         'places: while place < self.buckets.len() {

@@ -10,14 +10,14 @@ use Rattle.std.proofs.lemmas.List.{take_all, length-map, get_or-take, get_or-map
 use Rattle.std.proofs.lemmas.List.Elements.{All-get_or, All-from_get_or, All-head, All-tail}
 use Rattle.std.proofs.lemmas.List.Sums.{AllPass-from_list_all, list_all-from_AllPass}
 use Rattle.std.proofs.lemmas.Option.{slice_get_within, get_or_from_slice_get, slice_get-get_or}
-use Rattle.board.specs.Grids.{Grid, cell_count}
-use Rattle.board.specs.CostRules.{CostRule, IsCostRule, listed_rule}
+use Rattle.board.specs.Shapes.{ShapeModel, cell_count}
+use Rattle.board.specs.Weights.{WeightsModel, AreWeights, listed_rule}
 use Rattle.board.specs.Faults.{IsFirstZero, IsFirstWeightsFault}
 use Rattle.board.specs.declared.faults.WeightsFault.{WeightsFault}
 use Rattle.board.specs.declared.faults.WeightsFault.TheVariants.{WrongCount, WeightOutOfRange}
 use Rattle.board.proofs.WeightLemmas.{rule_has_no_fault, one_fault}
-use Rattle.batch_lines.specs.Words.{Spells, SpellEach}
-use Rattle.option_texts.specs.Texts.{comma_words, SpellsWeight, AreWeightsOf, AreCostsOf}
+use Rattle.batch_lines.specs.Words.{SpellsNumber, SpellEach}
+use Rattle.option_texts.specs.Texts.{comma_words, SpellsWeight, SaysWeights, SaysCosts}
 use Rattle.option_texts.specs.Texts.{weight_number}
 use Rattle.option_texts.specs.Faults.{IsFirstWeightWord, IsFirstWeightFault, IsFirstCostsFault}
 
@@ -37,7 +37,7 @@ number_high : (word : List ℕ) → weight_number word < 256
 number_high word = number_stays (list_all is_ascii_digit word) (nat_lt (digits_value 10 word) 256) (digits_value 10 word) refl
 
 -- a word whose number is not 0 spells that number, which is a weight
-spells_number : (word : List ℕ) → 1 ≤ weight_number word → Spells word (weight_number word)
+spells_number : (word : List ℕ) → 1 ≤ weight_number word → SpellsNumber word (weight_number word)
 spells_number word some =
     let parts = parts_of_some (list_all is_ascii_digit word) (nat_lt (digits_value 10 word) 256) (digits_value 10 word) some in
     record {
@@ -58,7 +58,7 @@ spells_weight word some = record {
 }
 
 -- the number of a word that spells one below 256
-number_spelled : (word : List ℕ) (n : ℕ) → Spells word n → n < 256 → weight_number word ≡ n
+number_spelled : (word : List ℕ) (n : ℕ) → SpellsNumber word n → n < 256 → weight_number word ≡ n
 number_spelled word n spells small =
     let all : list_all is_ascii_digit word ≡ true = list_all-from_AllPass is_ascii_digit word (λ k d l. tested (get_or word k d) (spells.digits k d l)) in
     let below : nat_lt (digits_value 10 word) 256 ≡ true = lt-ltb (digits_value 10 word) 256 (omega (arith, spells.value, small)) in
@@ -80,7 +80,7 @@ number_at words k word at =
     let within = slice_get_within words k word at in
     get_or-map weight_number words k word 0 within ∙ ap weight_number (get_or_from_slice_get words k word word at)
 
-first_word : (grid : Grid) (words : List (List ℕ)) (place : ℕ) → IsFirstZero grid (map weight_number words) place → IsFirstWeightWord grid words place
+first_word : (grid : ShapeModel) (words : List (List ℕ)) (place : ℕ) → IsFirstZero grid (map weight_number words) place → IsFirstWeightWord grid words place
 first_word grid words place first =
     let size = length-map words weight_number in
     let taken = length-take place (map weight_number words) in
@@ -92,7 +92,7 @@ first_word grid words place first =
           spells_weight word (omega (arith, low, get_or-take place (map weight_number words) k 0 early, number_at words k word at));
     }
 
-first_zero : (grid : Grid) (words : List (List ℕ)) (place : ℕ) (word : List ℕ) → IsFirstWeightWord grid words place → slice_get words place ≡ Some word → ¬ SpellsWeight word → IsFirstZero grid (map weight_number words) place
+first_zero : (grid : ShapeModel) (words : List (List ℕ)) (place : ℕ) (word : List ℕ) → IsFirstWeightWord grid words place → slice_get words place ≡ Some word → ¬ SpellsWeight word → IsFirstZero grid (map weight_number words) place
 first_zero grid words place word first at none =
     let size = length-map words weight_number in
     record {
@@ -107,7 +107,7 @@ first_zero grid words place word first at none =
     }
 
 -- the first fault of the numbers is that of the words
-same_fault : (grid : Grid) (words : List (List ℕ)) (fault : WeightsFault) → IsFirstWeightsFault grid (map weight_number words) fault ↔ IsFirstWeightFault grid words fault
+same_fault : (grid : ShapeModel) (words : List (List ℕ)) (fault : WeightsFault) → IsFirstWeightsFault grid (map weight_number words) fault ↔ IsFirstWeightFault grid words fault
 same_fault grid words WrongCount = (λ wrong e. wrong (length-map words weight_number ∙ e), λ wrong e. wrong (sym (length-map words weight_number) ∙ e))
 same_fault grid words (WeightOutOfRange place) = (
   (λ first.
@@ -118,12 +118,12 @@ same_fault grid words (WeightOutOfRange place) = (
 )
 
 -- a surplus of words is a surplus of numbers
-surplus : (grid : Grid) (words : List (List ℕ)) → cell_count grid ≤ 25 → 26 < length words → (fault : WeightsFault) → IsFirstWeightsFault grid (map weight_number (take 26 words)) fault ↔ IsFirstWeightFault grid words fault
+surplus : (grid : ShapeModel) (words : List (List ℕ)) → cell_count grid ≤ 25 → 26 < length words → (fault : WeightsFault) → IsFirstWeightsFault grid (map weight_number (take 26 words)) fault ↔ IsFirstWeightFault grid words fault
 surplus grid words few more WrongCount = (λ wrong e. absurd (omega arith), λ wrong e. absurd (omega (arith, length-map (take 26 words) weight_number, length-take 26 words)))
 surplus grid words few more (WeightOutOfRange place) = (λ first. absurd (let e = first.one_each in omega (arith, length-map (take 26 words) weight_number, length-take 26 words)), λ fault. absurd (let e = fault.1.one_each in omega arith))
 
 -- the first fault of the numbers that are read is that of the words
-read_fault : (grid : Grid) (words : List (List ℕ)) (numbers : List ℕ) → cell_count grid ≤ 25 → numbers ≡ map weight_number (take 26 words) → (fault : WeightsFault) → IsFirstWeightsFault grid numbers fault ↔ IsFirstWeightFault grid words fault
+read_fault : (grid : ShapeModel) (words : List (List ℕ)) (numbers : List ℕ) → cell_count grid ≤ 25 → numbers ≡ map weight_number (take 26 words) → (fault : WeightsFault) → IsFirstWeightsFault grid numbers fault ↔ IsFirstWeightFault grid words fault
 read_fault grid words numbers few read fault =
     subst (λ (ns : List ℕ). IsFirstWeightsFault grid ns fault ↔ IsFirstWeightFault grid words fault) (sym read)
     (⊎_elim
@@ -139,7 +139,7 @@ spell_each (word ∷ words) low =
     (spells_number word (All-head (λ n. 1 ≤ n) (weight_number word) (map weight_number words) low), spell_each words (All-tail (λ n. 1 ≤ n) (weight_number word) (map weight_number words) low))
 
 -- the words spell the weights that are read
-words_spell : (grid : Grid) (words : List (List ℕ)) (numbers : List ℕ) → cell_count grid ≤ 25 → numbers ≡ map weight_number (take 26 words) → IsCostRule (listed_rule grid numbers) → SpellEach words numbers
+words_spell : (grid : ShapeModel) (words : List (List ℕ)) (numbers : List ℕ) → cell_count grid ≤ 25 → numbers ≡ map weight_number (take 26 words) → AreWeights (listed_rule grid numbers) → SpellEach words numbers
 words_spell grid words numbers few read rule =
     let count : suc (length numbers) ≡ cell_count grid = rule.one_each in
     let all : length words ≤ 26 = omega (arith, count, ap length read, length-map (take 26 words) weight_number, length-take 26 words) in
@@ -148,7 +148,7 @@ words_spell grid words numbers few read rule =
     subst (λ (ns : List ℕ). SpellEach words ns) (sym same) (spell_each words (subst (λ (ns : List ℕ). All (λ n. 1 ≤ n) ns) same low))
 
 -- the costs of the weights that are read are those of the text
-pub weights_read : (grid : Grid) (text numbers : List ℕ) (result : Result CostRule WeightsFault) → cell_count grid ≤ 25 → numbers ≡ map weight_number (take 26 (comma_words text)) → (IsOk result → IsCostRule (listed_rule grid numbers)) → IfOk result (λ rule. rule ≡ listed_rule grid numbers) → IfOk result (AreCostsOf grid text)
+pub weights_read : (grid : ShapeModel) (text numbers : List ℕ) (result : Result WeightsModel WeightsFault) → cell_count grid ≤ 25 → numbers ≡ map weight_number (take 26 (comma_words text)) → (IsOk result → AreWeights (listed_rule grid numbers)) → IfOk result (λ rule. rule ≡ listed_rule grid numbers) → IfOk result (SaysCosts grid text)
 weights_read grid text numbers (Ok rule) few read accepted is =
     inr
     (inr
@@ -156,12 +156,12 @@ weights_read grid text numbers (Ok rule) few read accepted is =
       weights = numbers;
       spelled = words_spell grid (comma_words text) numbers few read (accepted refl);
       listed = is;
-      sound = subst IsCostRule (sym is) (accepted refl);
+      sound = subst AreWeights (sym is) (accepted refl);
     }))
 weights_read grid text numbers (Err fault) few read accepted is = tt
 
 -- their fault is that of the text
-pub weights_fault : (grid : Grid) (text numbers : List ℕ) (result : Result CostRule WeightsFault) → cell_count grid ≤ 25 → numbers ≡ map weight_number (take 26 (comma_words text)) → text ≢ codes "unit" → text ≢ codes "face" → ((fault : WeightsFault) → IsErrOf result fault ↔ IsFirstWeightsFault grid numbers fault) → (fault : WeightsFault) → IsErrOf result fault ↔ IsFirstCostsFault grid text fault
+pub weights_fault : (grid : ShapeModel) (text numbers : List ℕ) (result : Result WeightsModel WeightsFault) → cell_count grid ≤ 25 → numbers ≡ map weight_number (take 26 (comma_words text)) → text ≢ codes "unit" → text ≢ codes "face" → ((fault : WeightsFault) → IsErrOf result fault ↔ IsFirstWeightsFault grid numbers fault) → (fault : WeightsFault) → IsErrOf result fault ↔ IsFirstCostsFault grid text fault
 weights_fault grid text numbers result few read no_unit no_face exact fault =
     let same = read_fault grid (comma_words text) numbers few read fault in
     ((λ is. (no_unit, no_face, same.0 ((exact fault).0 is))), (λ first. (exact fault).1 (same.1 first.2)))
@@ -179,22 +179,22 @@ weights_are (word ∷ words) (n ∷ ns) spelled high =
     ap (λ (m : ℕ). m ∷ map weight_number words) first ∙ ap (λ (ms : List ℕ). n ∷ ms) others
 
 -- the costs are those of the words' numbers
-said_rule : (grid : Grid) (text : List ℕ) (rule : CostRule) → AreWeightsOf grid text rule → rule ≡ listed_rule grid (map weight_number (comma_words text))
+said_rule : (grid : ShapeModel) (text : List ℕ) (rule : WeightsModel) → SaysWeights grid text rule → rule ≡ listed_rule grid (map weight_number (comma_words text))
 said_rule grid text rule said =
-    let sound : IsCostRule (listed_rule grid said.weights) = subst IsCostRule said.listed said.sound in
+    let sound : AreWeights (listed_rule grid said.weights) = subst AreWeights said.listed said.sound in
     let count : suc (length said.weights) ≡ cell_count grid = sound.one_each in
     let high : All (λ n. n < 256) said.weights = All-from_get_or (λ n. n < 256) said.weights 0 (λ k inside. let low = sound.high (suc k) (omega (arith, inside, count)) in omega (arith, low)) in
     said.listed ∙ ap (listed_rule grid) (sym (weights_are (comma_words text) said.weights said.spelled high))
 
 -- a text without a digit at its beginning says no weights
-unit_no_weights : (grid : Grid) (text : List ℕ) (rule : CostRule) → text ≡ codes "unit" → AreWeightsOf grid text rule → ⊥
+unit_no_weights : (grid : ShapeModel) (text : List ℕ) (rule : WeightsModel) → text ≡ codes "unit" → SaysWeights grid text rule → ⊥
 unit_no_weights grid text rule is said = no_digits said.weights (subst (λ (t : List ℕ). SpellEach (comma_words t) said.weights) is said.spelled)
   where
     no_digits : (ns : List ℕ) → SpellEach (comma_words (codes "unit")) ns → ⊥
     no_digits [] spelled = absurd spelled
     no_digits (n ∷ ns) spelled = let digit = spelled.0.digits 0 0 (omega arith) in omega (arith, digit)
 
-face_no_weights : (grid : Grid) (text : List ℕ) (rule : CostRule) → text ≡ codes "face" → AreWeightsOf grid text rule → ⊥
+face_no_weights : (grid : ShapeModel) (text : List ℕ) (rule : WeightsModel) → text ≡ codes "face" → SaysWeights grid text rule → ⊥
 face_no_weights grid text rule is said = no_digits said.weights (subst (λ (t : List ℕ). SpellEach (comma_words t) said.weights) is said.spelled)
   where
     no_digits : (ns : List ℕ) → SpellEach (comma_words (codes "face")) ns → ⊥
@@ -204,7 +204,7 @@ face_no_weights grid text rule is said = no_digits said.weights (subst (λ (t : 
 unit_no_face : (text : List ℕ) → text ≡ codes "unit" → text ≡ codes "face" → ⊥
 unit_no_face text unit face = let e = ap (λ (t : List ℕ). get_or t 0 0) (sym unit ∙ face) in omega (arith, e)
 
-pub one_rule : (grid : Grid) (text : List ℕ) (rule rule' : CostRule) → AreCostsOf grid text rule → AreCostsOf grid text rule' → rule' ≡ rule
+pub one_rule : (grid : ShapeModel) (text : List ℕ) (rule rule' : WeightsModel) → SaysCosts grid text rule → SaysCosts grid text rule' → rule' ≡ rule
 one_rule grid text rule rule' (inl unit) (inl unit') = unit'.1 ∙ sym unit.1
 one_rule grid text rule rule' (inl unit) (inr (inl face)) = absurd (unit_no_face text unit.0 face.0)
 one_rule grid text rule rule' (inl unit) (inr (inr said)) = absurd (unit_no_weights grid text rule' unit.0 said)
@@ -215,13 +215,13 @@ one_rule grid text rule rule' (inr (inr said)) (inl unit) = absurd (unit_no_weig
 one_rule grid text rule rule' (inr (inr said)) (inr (inl face)) = absurd (face_no_weights grid text rule face.0 said)
 one_rule grid text rule rule' (inr (inr said)) (inr (inr said')) = said_rule grid text rule' said' ∙ sym (said_rule grid text rule said)
 
-pub no_costs_fault : (grid : Grid) (text : List ℕ) (rule : CostRule) (fault : WeightsFault) → AreCostsOf grid text rule → IsFirstCostsFault grid text fault → ⊥
+pub no_costs_fault : (grid : ShapeModel) (text : List ℕ) (rule : WeightsModel) (fault : WeightsFault) → SaysCosts grid text rule → IsFirstCostsFault grid text fault → ⊥
 no_costs_fault grid text rule fault (inl unit) first = first.0 unit.0
 no_costs_fault grid text rule fault (inr (inl face)) first = first.1 face.0
 no_costs_fault grid text rule fault (inr (inr said)) first =
-    let sound : IsCostRule (listed_rule grid (map weight_number (comma_words text))) = subst IsCostRule (said_rule grid text rule said) said.sound in
+    let sound : AreWeights (listed_rule grid (map weight_number (comma_words text))) = subst AreWeights (said_rule grid text rule said) said.sound in
     rule_has_no_fault grid (map weight_number (comma_words text)) sound fault ((same_fault grid (comma_words text) fault).1 first.2)
 
-pub one_costs_fault : (grid : Grid) (text : List ℕ) (fault fault' : WeightsFault) → IsFirstCostsFault grid text fault → IsFirstCostsFault grid text fault' → fault' ≡ fault
+pub one_costs_fault : (grid : ShapeModel) (text : List ℕ) (fault fault' : WeightsFault) → IsFirstCostsFault grid text fault → IsFirstCostsFault grid text fault' → fault' ≡ fault
 one_costs_fault grid text fault fault' first second =
     one_fault grid (map weight_number (comma_words text)) fault fault' ((same_fault grid (comma_words text) fault).1 first.2) ((same_fault grid (comma_words text) fault').1 second.2)

@@ -7,12 +7,12 @@ use Rattle.std.proofs.lemmas.List.Sorted.{All-permutation, length_permutation, C
 use Rattle.std.proofs.lemmas.Map.Keys.{IsDistinct-IsPermutation}
 use Rattle.std.proofs.lemmas.Map.Made.{IsDistinct-from_AllPairs, AllPairs-from_IsDistinct}
 use Rattle.std.proofs.lemmas.Option.{same_Some, none-some}
-use Rattle.board.specs.Grids.{Grid, IsShape, cell_count}
+use Rattle.board.specs.Shapes.{ShapeModel, IsShape, cell_count}
 use Rattle.pattern_index.specs.Ranks.{ways}
 use Rattle.pattern_index.specs.declared.group.TheConstants.{MAX_SIZE}
-use Rattle.pattern_index.specs.Selections.{Selection, IsTile, IsGroup, size_of}
-use Rattle.pattern_index.specs.Splits.{AreApart, Split, IsSplit}
-use Rattle.pattern_index.specs.Faults.{IsFirstFault}
+use Rattle.pattern_index.specs.Groups.{GroupModel, IsTile, AreGroupTiles, size_of}
+use Rattle.pattern_index.specs.Partitions.{AreApart, PartitionModel, IsPartition}
+use Rattle.pattern_index.specs.Faults.{IsFirstGroupFault}
 use Rattle.pattern_index.specs.declared.faults.GroupFault.{GroupFault}
 use Rattle.pattern_index.specs.declared.faults.PartitionFault.{PartitionFault}
 use Rattle.pattern_index.specs.declared.faults.PartitionFault.TheVariants.{SharedTile, TooManyGroups}
@@ -21,7 +21,7 @@ use Rattle.option_texts.specs.declared.faults.GroupsFault.{GroupsFault}
 use Rattle.option_texts.specs.declared.faults.GroupsFault.TheVariants.{NoGroup, NoPartition, Memory}
 use Rattle.option_texts.specs.Texts.{group_numbers, IsGroupOf, AreGroupsOf}
 use Rattle.option_texts.specs.Faults.{IsFirstGroupsFault}
-use Rattle.option_texts.specs.Laws.{IsRefusal}
+use Rattle.option_texts.specs.Laws.{IsMemoryRefusal}
 use Rattle.std.specs.List.{concat, range_with_len}
 use Rattle.std.specs.List.Sorted.{IsStrictlyIncreasing}
 use Rattle.std.specs.Int.{div_ceil}
@@ -38,7 +38,7 @@ eqb_comm : (x y : ℕ) → eqb x y ≡ eqb y x
 eqb_comm x y = grind (arith, nat_tests)
 
 -- what is the tiles of a group in another order is a group
-group_moved : (grid : Grid) (numbers tiles : List ℕ) → IsPermutation numbers tiles → IsGroup grid tiles → IsGroup grid numbers
+group_moved : (grid : ShapeModel) (numbers tiles : List ℕ) → IsPermutation numbers tiles → AreGroupTiles grid tiles → AreGroupTiles grid numbers
 group_moved grid numbers tiles moved group =
     let back = IsPermutation-sym numbers tiles moved in
     record {
@@ -47,7 +47,7 @@ group_moved grid numbers tiles moved group =
     }
 
 -- the group of a text at a place
-group_at : (grid : Grid) (texts : List (List ℕ)) (groups : List Selection) (place : ℕ) (text : List ℕ) → AreGroupsOf grid texts groups → slice_get texts place ≡ Some text → (g : Selection) × IsGroupOf grid text g
+group_at : (grid : ShapeModel) (texts : List (List ℕ)) (groups : List GroupModel) (place : ℕ) (text : List ℕ) → AreGroupsOf grid texts groups → slice_get texts place ≡ Some text → (g : GroupModel) × IsGroupOf grid text g
 group_at grid [] [] place text made at = absurd (none-some text at)
 group_at grid [] (g ∷ groups) place text made at = absurd made
 group_at grid (t ∷ texts) [] place text made at = absurd made
@@ -55,7 +55,7 @@ group_at grid (t ∷ texts) (g ∷ groups) zero text made at = (g, subst (λ (by
 group_at grid (t ∷ texts) (g ∷ groups) (suc place) text made at = group_at grid texts groups place text made.1 at
 
 -- texts say as many groups, and groups of the same tiles, whoever reads them
-same_count : (grid : Grid) (texts : List (List ℕ)) (ones others : List Selection) → AreGroupsOf grid texts ones → AreGroupsOf grid texts others → length ones ≡ length others
+same_count : (grid : ShapeModel) (texts : List (List ℕ)) (ones others : List GroupModel) → AreGroupsOf grid texts ones → AreGroupsOf grid texts others → length ones ≡ length others
 same_count grid [] [] [] one other = refl
 same_count grid [] (g ∷ ones) others one other = absurd one
 same_count grid [] [] (h ∷ others) one other = absurd other
@@ -63,7 +63,7 @@ same_count grid (t ∷ texts) [] others one other = absurd one
 same_count grid (t ∷ texts) (g ∷ ones) [] one other = absurd other
 same_count grid (t ∷ texts) (g ∷ ones) (h ∷ others) one other = ap suc (same_count grid texts ones others one.1 other.1)
 
-same_tiles : (grid : Grid) (texts : List (List ℕ)) (ones others : List Selection) → AreGroupsOf grid texts ones → AreGroupsOf grid texts others → (i : ℕ) (d : Selection) (tile : ℕ) → i < length others → Contains (get_or others i d).tiles tile → Contains (get_or ones i d).tiles tile
+same_tiles : (grid : ShapeModel) (texts : List (List ℕ)) (ones others : List GroupModel) → AreGroupsOf grid texts ones → AreGroupsOf grid texts others → (i : ℕ) (d : GroupModel) (tile : ℕ) → i < length others → Contains (get_or others i d).tiles tile → Contains (get_or ones i d).tiles tile
 same_tiles grid [] ones [] one other i d tile within found = absurd (omega (arith, within))
 same_tiles grid [] ones (h ∷ others) one other i d tile within found = absurd other
 same_tiles grid (t ∷ texts) [] others one other i d tile within found = absurd one
@@ -73,27 +73,27 @@ same_tiles grid (t ∷ texts) (g ∷ ones) (h ∷ others) one other zero d tile 
 same_tiles grid (t ∷ texts) (g ∷ ones) (h ∷ others) one other (suc i) d tile within found = same_tiles grid texts ones others one.1 other.1 i d tile (omega (arith, within)) found
 
 -- a text that says a group has no fault
-said_no_fault : (grid : Grid) (text : List ℕ) (g : Selection) (fault : GroupFault) → IsGroupOf grid text g → IsFirstFault grid (group_numbers text) fault → ⊥
+said_no_fault : (grid : ShapeModel) (text : List ℕ) (g : GroupModel) (fault : GroupFault) → IsGroupOf grid text g → IsFirstGroupFault grid (group_numbers text) fault → ⊥
 said_no_fault grid text g fault said first =
     let numbers = group_numbers text in
     let long : length g.tiles ≡ length numbers = length_permutation numbers g.tiles said.tiles in
-    let group : IsGroup grid numbers = group_moved grid numbers g.tiles said.tiles (subst (λ (of : Grid). IsGroup of g.tiles) said.sides said.group.group) in
-    let small : ways (cell_count grid) (suc (length numbers)) ≤ MAX_SIZE = subst (λ (n : ℕ). ways (cell_count grid) (suc n) ≤ MAX_SIZE) long (subst (λ (of : Grid). ways (cell_count of) (suc (length g.tiles)) ≤ MAX_SIZE) said.sides said.group.small) in
+    let group : AreGroupTiles grid numbers = group_moved grid numbers g.tiles said.tiles (subst (λ (of : ShapeModel). AreGroupTiles of g.tiles) said.sides said.group.group) in
+    let small : ways (cell_count grid) (suc (length numbers)) ≤ MAX_SIZE = subst (λ (n : ℕ). ways (cell_count grid) (suc n) ≤ MAX_SIZE) long (subst (λ (of : ShapeModel). ways (cell_count of) (suc (length g.tiles)) ≤ MAX_SIZE) said.sides said.group.small) in
     no_fault grid numbers (omega (arith, long, said.group.some)) group small fault first
 
 -- groups that the texts say are apart where others that they say are
-apart_alike : (grid : Grid) (texts : List (List ℕ)) (ones others : List Selection) → AreGroupsOf grid texts ones → AreGroupsOf grid texts others → AreApart ones → AreApart others
+apart_alike : (grid : ShapeModel) (texts : List (List ℕ)) (ones others : List GroupModel) → AreGroupsOf grid texts ones → AreGroupsOf grid texts others → AreApart ones → AreApart others
 apart_alike grid texts ones others one other apart i j d lt within tile first second =
     let count = same_count grid texts ones others one other in
     apart i j d lt (omega (arith, count, within)) tile (same_tiles grid texts ones others one other i d tile (omega (arith, lt, within)) first) (same_tiles grid texts ones others one other j d tile within second)
 
-pub no_groups_fault : (split : Split) (texts : List (List ℕ)) (fault : GroupsFault) → IsSplit split → AreGroupsOf split.grid texts split.groups → IsFirstGroupsFault split.grid texts fault → IsRefusal fault
+pub no_groups_fault : (split : PartitionModel) (texts : List (List ℕ)) (fault : GroupsFault) → IsPartition split → AreGroupsOf split.grid texts split.groups → IsFirstGroupsFault split.grid texts fault → IsMemoryRefusal fault
 no_groups_fault split texts (Memory refused) is said first = tt
 no_groups_fault split texts (NoGroup fault) is said first =
     let here = group_at split.grid texts split.groups first.0 first.1 said first.3 in
     absurd (said_no_fault split.grid first.1 here.0 fault here.1 first.5)
 no_groups_fault split texts (NoPartition fault) is said first =
-    let others : List Selection = first.0 in
+    let others : List GroupModel = first.0 in
     let count = same_count split.grid texts split.groups others said first.1 in
     absurd (no_split_fault others (omega (arith, count, is.few)) (apart_alike split.grid texts split.groups others said first.1 is.apart) fault first.2)
 
@@ -107,34 +107,34 @@ text_before (t ∷ texts) zero (suc q) text lt at = at
 text_before (t ∷ texts) (suc p) (suc q) text lt at = text_before texts p q text (omega arith) at
 
 -- no text before a fault is at fault
-none_before : (grid : Grid) (texts : List (List ℕ)) (p q : ℕ) (text : List ℕ) (before : List Selection) (fault : GroupFault) → p < q → slice_get texts p ≡ Some text → AreGroupsOf grid (take q texts) before → IsFirstFault grid (group_numbers text) fault → ⊥
+none_before : (grid : ShapeModel) (texts : List (List ℕ)) (p q : ℕ) (text : List ℕ) (before : List GroupModel) (fault : GroupFault) → p < q → slice_get texts p ≡ Some text → AreGroupsOf grid (take q texts) before → IsFirstGroupFault grid (group_numbers text) fault → ⊥
 none_before grid texts p q text before fault lt at said first =
     let here = group_at grid (take q texts) before p text said (text_before texts p q text lt at) in
     said_no_fault grid text here.0 fault here.1 first
 
-one_group_fault : (grid : Grid) (texts : List (List ℕ)) (fault fault' : GroupFault) → IsFirstGroupsFault grid texts (NoGroup fault) → IsFirstGroupsFault grid texts (NoGroup fault') → fault' ≡ fault
+one_group_fault : (grid : ShapeModel) (texts : List (List ℕ)) (fault fault' : GroupFault) → IsFirstGroupsFault grid texts (NoGroup fault) → IsFirstGroupsFault grid texts (NoGroup fault') → fault' ≡ fault
 one_group_fault grid texts fault fault' first second =
     ⊎_elim
     (λ (same : first.0 ≡ second.0).
     let text : second.1 ≡ first.1 = same_Some second.1 first.1 (sym second.3 ∙ ap (slice_get texts) (sym same) ∙ first.3) in
-    one_fault grid (group_numbers first.1) fault fault' first.5 (subst (λ (bytes : List ℕ). IsFirstFault grid (group_numbers bytes) fault') text second.5))
+    one_fault grid (group_numbers first.1) fault fault' first.5 (subst (λ (bytes : List ℕ). IsFirstGroupFault grid (group_numbers bytes) fault') text second.5))
     (λ (apart : (first.0 < second.0) ⊎ (second.0 < first.0)).
     ⊎_elim (λ (lt : first.0 < second.0). absurd (none_before grid texts first.0 second.0 first.1 second.2 fault lt first.3 second.4 first.5))
     (λ (lt : second.0 < first.0). absurd (none_before grid texts second.0 first.0 second.1 first.2 fault' lt second.3 first.4 second.5)) apart)
     (cases_order first.0 second.0)
 
-one_or_other : (grid : Grid) (texts : List (List ℕ)) (fault : GroupFault) (fault' : PartitionFault) → IsFirstGroupsFault grid texts (NoGroup fault) → IsFirstGroupsFault grid texts (NoPartition fault') → ⊥
+one_or_other : (grid : ShapeModel) (texts : List (List ℕ)) (fault : GroupFault) (fault' : PartitionFault) → IsFirstGroupsFault grid texts (NoGroup fault) → IsFirstGroupsFault grid texts (NoPartition fault') → ⊥
 one_or_other grid texts fault fault' first second =
     let here = group_at grid texts second.0 first.0 first.1 second.1 first.3 in
     said_no_fault grid first.1 here.0 fault here.1 first.5
 
-one_partition_fault : (grid : Grid) (texts : List (List ℕ)) (fault fault' : PartitionFault) → IsFirstGroupsFault grid texts (NoPartition fault) → IsFirstGroupsFault grid texts (NoPartition fault') → fault' ≡ fault
+one_partition_fault : (grid : ShapeModel) (texts : List (List ℕ)) (fault fault' : PartitionFault) → IsFirstGroupsFault grid texts (NoPartition fault) → IsFirstGroupsFault grid texts (NoPartition fault') → fault' ≡ fault
 one_partition_fault grid texts TooManyGroups TooManyGroups first second = refl
 one_partition_fault grid texts SharedTile SharedTile first second = refl
 one_partition_fault grid texts TooManyGroups SharedTile first second = let count = same_count grid texts first.0 second.0 first.1 second.1 in absurd (omega (arith, count, first.2, second.2.0))
 one_partition_fault grid texts SharedTile TooManyGroups first second = let count = same_count grid texts first.0 second.0 first.1 second.1 in absurd (omega (arith, count, second.2, first.2.0))
 
-pub one_groups_fault : (grid : Grid) (texts : List (List ℕ)) (fault fault' : GroupsFault) → ¬ IsRefusal fault → ¬ IsRefusal fault' → IsFirstGroupsFault grid texts fault → IsFirstGroupsFault grid texts fault' → fault' ≡ fault
+pub one_groups_fault : (grid : ShapeModel) (texts : List (List ℕ)) (fault fault' : GroupsFault) → ¬ IsMemoryRefusal fault → ¬ IsMemoryRefusal fault' → IsFirstGroupsFault grid texts fault → IsFirstGroupsFault grid texts fault' → fault' ≡ fault
 one_groups_fault grid texts (Memory refused) fault' given given' first second = absurd (given tt)
 one_groups_fault grid texts (NoGroup fault) (Memory refused) given given' first second = absurd (given' tt)
 one_groups_fault grid texts (NoPartition fault) (Memory refused) given given' first second = absurd (given' tt)
@@ -206,7 +206,7 @@ few_views cells count room high few =
     (cases_lt 16 cells)
 
 -- some tiles in rising order make a group
-pub rising_is_group : (grid : Grid) (numbers : List ℕ) (a n : ℕ) → numbers ≡ range_with_len a n → 0 < a → 0 < n → a + n ≤ cell_count grid → cell_count grid ≤ 25 → n ≤ default_size (cell_count grid) → (0 < length numbers) × IsGroup grid numbers × (size_of (record { grid = grid; tiles = numbers }) ≤ MAX_SIZE)
+pub rising_is_group : (grid : ShapeModel) (numbers : List ℕ) (a n : ℕ) → numbers ≡ range_with_len a n → 0 < a → 0 < n → a + n ≤ cell_count grid → cell_count grid ≤ 25 → n ≤ default_size (cell_count grid) → (0 < length numbers) × AreGroupTiles grid numbers × (size_of (record { grid = grid; tiles = numbers }) ≤ MAX_SIZE)
 rising_is_group grid numbers a n is first some room high few =
     let count : length numbers ≡ n = ap length is ∙ length-range_with_len a n in
     let same : suc (length numbers) ≡ suc n = ap suc count in (
@@ -269,13 +269,13 @@ groups_few tiles size some few =
     absurd (omega arith))
     (cases_lt (div_ceil tiles size) 25)
 
-module _ (groups : List Selection) (cells size count : ℕ) (is : map (λ (g : Selection). g.tiles) groups ≡ map (default_tiles cells size) (range_with_len 0 count)) where
+module _ (groups : List GroupModel) (cells size count : ℕ) (is : map (λ (g : GroupModel). g.tiles) groups ≡ map (default_tiles cells size) (range_with_len 0 count)) where
   pub groups_count : length groups ≡ count
-  groups_count = sym (length-map groups (λ (g : Selection). g.tiles)) ∙ ap length is ∙ length-map-range_with_len (default_tiles cells size) 0 count
+  groups_count = sym (length-map groups (λ (g : GroupModel). g.tiles)) ∙ ap length is ∙ length-map-range_with_len (default_tiles cells size) 0 count
 
-  tiles_at : (i : ℕ) (d : Selection) → i < length groups → (get_or groups i d).tiles ≡ default_tiles cells size i
+  tiles_at : (i : ℕ) (d : GroupModel) → i < length groups → (get_or groups i d).tiles ≡ default_tiles cells size i
   tiles_at i d within =
-      sym (get_or-map (λ (g : Selection). g.tiles) groups i d d.tiles within) ∙ ap (λ (ls : List (List ℕ)). get_or ls i d.tiles) is
+      sym (get_or-map (λ (g : GroupModel). g.tiles) groups i d d.tiles within) ∙ ap (λ (ls : List (List ℕ)). get_or ls i d.tiles) is
       ∙ get_or-map-range_with_len (default_tiles cells size) 0 count i i d.tiles (omega (arith, within, groups_count)) (omega arith)
 
   -- a tile of a group is not before its first, and not past its last
@@ -314,7 +314,7 @@ each_side P two three four five side low high =
     (cases_eq side 2)
 
 -- each tile stands in the groups, shape by shape
-pub each_tile : (grid : Grid) → IsShape grid → concat (default_groups grid) ≡ range_with_len 1 (cell_count grid - 1)
+pub each_tile : (grid : ShapeModel) → IsShape grid → concat (default_groups grid) ≡ range_with_len 1 (cell_count grid - 1)
 each_tile grid sides =
     each_side (λ rows. HasEachTile rows grid.cols) (of_rows 2 refl refl refl refl) (of_rows 3 refl refl refl refl) (of_rows 4 refl refl refl refl) (of_rows 5 refl refl refl refl) grid.rows sides.rows_low sides.rows_high
   where

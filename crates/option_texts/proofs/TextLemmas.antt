@@ -4,12 +4,12 @@ use Rattle.std.specs.Prelude.{slice_get, IfOk, IsOk, IsErrOf, ◌↔◌, IsPermu
 use Rattle.std.specs.Borrow.{Bor}
 use Rattle.std.proofs.lemmas.Bool.{cases_lt}
 use Rattle.std.proofs.lemmas.List.{take_all, get_or-take}
-use Rattle.board.specs.Grids.{Grid, cell_count, IsShape}
-use Rattle.board.specs.Positions.{Position, IsBoard}
+use Rattle.board.specs.Shapes.{ShapeModel, cell_count, IsShape}
+use Rattle.board.specs.Boards.{BoardModel, IsBoard}
 use Rattle.board.specs.declared.faults.TilesFault.{TilesFault}
 use Rattle.board.proofs.NeighbourLemmas.{cells_above}
-use Rattle.pattern_index.specs.Selections.{Selection, IsTile, IsGroup, IsSelection, size_of}
-use Rattle.pattern_index.specs.Faults.{IsFirstPlace, IsFirstFault}
+use Rattle.pattern_index.specs.Groups.{GroupModel, IsTile, AreGroupTiles, IsGroup, size_of}
+use Rattle.pattern_index.specs.Faults.{IsFirstGroupPlace, IsFirstGroupFault}
 use Rattle.pattern_index.specs.declared.group.TheConstants.{MAX_SIZE}
 use Rattle.pattern_index.specs.declared.faults.GroupFault.{GroupFault}
 use Rattle.pattern_index.specs.declared.faults.GroupFault.TheVariants.{Empty, NotATile, Repeated, TooManyViews}
@@ -19,7 +19,7 @@ use Rattle.batch_lines.proofs.FaultLemmas.{spelled}
 use Rattle.option_texts.specs.Texts.{comma_words, IsGoalOf, group_numbers, IsGroupOf, AreGroupsOf}
 use Rattle.std.proofs.lemmas.Option.{slice_get_within}
 use Rattle.board.specs.declared.faults.TilesFault.TheVariants.{WrongCount, TileOutOfRange, TileRepeated}
-use Rattle.batch_lines.specs.Words.{Spells, SpellEach, IsFirstWordFault}
+use Rattle.batch_lines.specs.Words.{SpellsNumber, SpellEach, IsFirstWordFault}
 
 -- what is read of each item, item by item
 pub read_each : {Y : Type 0} (f : List ℕ → Y) (words : List (Bor (List ℕ))) → map (λ (word : Bor (List ℕ)). f word.now) words ≡ map f (map (λ (word : Bor (List ℕ)). word.now) words)
@@ -39,7 +39,7 @@ numbers_of_words (byte ∷ bytes) some = refl
 -- ---- goals
 
 -- the board of the numbers that are read is the goal of the text
-pub goal_read : (grid : Grid) (text numbers : List ℕ) (result : Result Position TilesFault) → cell_count grid ≤ 25 → numbers ≡ map tile_number (take 26 (comma_words text)) → (IsOk result → IsBoard (record { grid = grid; tiles = numbers })) → IfOk result (λ b. b ≡ record { grid = grid; tiles = numbers }) → IfOk result (IsGoalOf grid text)
+pub goal_read : (grid : ShapeModel) (text numbers : List ℕ) (result : Result BoardModel TilesFault) → cell_count grid ≤ 25 → numbers ≡ map tile_number (take 26 (comma_words text)) → (IsOk result → IsBoard (record { grid = grid; tiles = numbers })) → IfOk result (λ b. b ≡ record { grid = grid; tiles = numbers }) → IfOk result (IsGoalOf grid text)
 goal_read grid text numbers (Ok b) few read board is =
     subst (IsGoalOf grid text) (sym is)
     (record {
@@ -52,7 +52,7 @@ goal_read grid text numbers (Err fault) few read board is = tt
 -- ---- the first numbers of a group
 
 -- a group has fewer numbers than are read
-few_tiles : (grid : Grid) (ts : List ℕ) → IsShape grid → IsGroup grid ts → length ts ≤ 24
+few_tiles : (grid : ShapeModel) (ts : List ℕ) → IsShape grid → AreGroupTiles grid ts → length ts ≤ 24
 few_tiles grid ts sides group =
     let room = group_room grid ts (cells_above grid sides) group in
     let high = cells_high grid sides in
@@ -64,37 +64,37 @@ take_twice (suc i) zero ys le = absurd (omega arith)
 take_twice (suc i) (suc j) [] le = refl
 take_twice (suc i) (suc j) (y ∷ ys) le = ap (λ (zs : List ℕ). y ∷ zs) (take_twice i j ys (omega arith))
 
-module _ (grid : Grid) (numbers : List ℕ) (sides : IsShape grid) where
+module _ (grid : ShapeModel) (numbers : List ℕ) (sides : IsShape grid) where
   -- where the first numbers make a group, there are no others
-  group_front : IsGroup grid (take 26 numbers) → take 26 numbers ≡ numbers
+  group_front : AreGroupTiles grid (take 26 numbers) → take 26 numbers ≡ numbers
   group_front group =
       let few = few_tiles grid (take 26 numbers) sides group in
       take_all 26 numbers (⊎_elim (λ (more : 26 < length numbers). absurd (omega (arith, few, length-take 26 numbers))) (λ (all : length numbers ≤ 26). all) (cases_lt 26 (length numbers)))
 
   -- the first offending place is among the first
-  place_front : (place : ℕ) → IsFirstPlace grid numbers place → place < 26
+  place_front : (place : ℕ) → IsFirstGroupPlace grid numbers place → place < 26
   place_front place first =
       let few = few_tiles grid (take place numbers) sides first.before in
       omega (arith, few, length-take place numbers, first.within)
 
-  to_front : (place : ℕ) → IsFirstPlace grid numbers place → IsFirstPlace grid (take 26 numbers) place
+  to_front : (place : ℕ) → IsFirstGroupPlace grid numbers place → IsFirstGroupPlace grid (take 26 numbers) place
   to_front place first = record {
     within = omega (arith, place_front place first, first.within, length-take 26 numbers);
-    before = subst (IsGroup grid) (sym (take_twice place 26 numbers (omega (arith, place_front place first)))) first.before;
+    before = subst (AreGroupTiles grid) (sym (take_twice place 26 numbers (omega (arith, place_front place first)))) first.before;
   }
 
-  from_front : (place : ℕ) → IsFirstPlace grid (take 26 numbers) place → (place < 26) × IsFirstPlace grid numbers place
+  from_front : (place : ℕ) → IsFirstGroupPlace grid (take 26 numbers) place → (place < 26) × IsFirstGroupPlace grid numbers place
   from_front place first =
       let low : place < 26 = omega (arith, first.within, length-take 26 numbers) in (
         low,
         record {
           within = omega (arith, first.within, length-take 26 numbers);
-          before = subst (IsGroup grid) (take_twice place 26 numbers (omega (arith, low))) first.before;
+          before = subst (AreGroupTiles grid) (take_twice place 26 numbers (omega (arith, low))) first.before;
         },
       )
 
   -- the first fault of all numbers is that of the first
-  pub front_fault : (fault : GroupFault) → IsFirstFault grid (take 26 numbers) fault ↔ IsFirstFault grid numbers fault
+  pub front_fault : (fault : GroupFault) → IsFirstGroupFault grid (take 26 numbers) fault ↔ IsFirstGroupFault grid numbers fault
   front_fault Empty = (
     (λ none. let long = ap length none in nothing (omega (arith, long, length-take 26 numbers))),
     (λ none. ap (take 26) none),
@@ -119,16 +119,16 @@ module _ (grid : Grid) (numbers : List ℕ) (sides : IsShape grid) where
         (fault.0, to_front fault.0 fault.1, subst (IsTile grid) (sym is) fault.2, subst (Contains (take fault.0 (take 26 numbers))) (sym is) found)),
   )
   front_fault TooManyViews = (
-    (λ fault. subst (λ (ns : List ℕ). IsFirstFault grid ns TooManyViews) (group_front fault.1) fault),
+    (λ fault. subst (λ (ns : List ℕ). IsFirstGroupFault grid ns TooManyViews) (group_front fault.1) fault),
     (λ fault.
         let few = few_tiles grid numbers sides fault.1 in
-        subst (λ (ns : List ℕ). IsFirstFault grid ns TooManyViews) (sym (take_all 26 numbers (omega (arith, few)))) fault),
+        subst (λ (ns : List ℕ). IsFirstGroupFault grid ns TooManyViews) (sym (take_all 26 numbers (omega (arith, few)))) fault),
   )
 
 -- the group of the numbers that are read is the group of the text
-pub group_read : (grid : Grid) (text numbers : List ℕ) (result : Result Selection GroupFault) → IsShape grid → numbers ≡ take 26 (group_numbers text) → (IsOk result → (0 < length numbers) × IsGroup grid numbers × (size_of (record { grid = grid; tiles = numbers }) ≤ MAX_SIZE)) → IfOk result (λ g. g.grid ≡ grid) → IfOk result (λ g. IsPermutation numbers g.tiles) → IfOk result IsSelection → IfOk result (IsGroupOf grid text)
+pub group_read : (grid : ShapeModel) (text numbers : List ℕ) (result : Result GroupModel GroupFault) → IsShape grid → numbers ≡ take 26 (group_numbers text) → (IsOk result → (0 < length numbers) × AreGroupTiles grid numbers × (size_of (record { grid = grid; tiles = numbers }) ≤ MAX_SIZE)) → IfOk result (λ g. g.grid ≡ grid) → IfOk result (λ g. IsPermutation numbers g.tiles) → IfOk result IsGroup → IfOk result (IsGroupOf grid text)
 group_read grid text numbers (Ok g) sides read accepted of_grid moved sound =
-    let group = subst (IsGroup grid) read (accepted refl).1 in
+    let group = subst (AreGroupTiles grid) read (accepted refl).1 in
     record {
       tiles = subst (λ (ns : List ℕ). IsPermutation ns g.tiles) (read ∙ group_front grid (group_numbers text) sides group) moved;
       group = sound;
@@ -137,22 +137,22 @@ group_read grid text numbers (Ok g) sides read accepted of_grid moved sound =
 group_read grid text numbers (Err fault) sides read accepted of_grid moved sound = tt
 
 -- its fault is the fault of the text
-pub fault_read : {A : Type 0} (grid : Grid) (text numbers : List ℕ) (result : Result A GroupFault) → IsShape grid → numbers ≡ take 26 (group_numbers text) → ((fault : GroupFault) → IsErrOf result fault ↔ IsFirstFault grid numbers fault) → (fault : GroupFault) → IsErrOf result fault ↔ IsFirstFault grid (group_numbers text) fault
+pub fault_read : {A : Type 0} (grid : ShapeModel) (text numbers : List ℕ) (result : Result A GroupFault) → IsShape grid → numbers ≡ take 26 (group_numbers text) → ((fault : GroupFault) → IsErrOf result fault ↔ IsFirstGroupFault grid numbers fault) → (fault : GroupFault) → IsErrOf result fault ↔ IsFirstGroupFault grid (group_numbers text) fault
 fault_read grid text numbers result sides read exact fault =
     let same = front_fault grid (group_numbers text) sides fault in (
-      (λ is. same.0 (subst (λ (ns : List ℕ). IsFirstFault grid ns fault) read ((exact fault).0 is))),
-      (λ first. (exact fault).1 (subst (λ (ns : List ℕ). IsFirstFault grid ns fault) (sym read) (same.1 first))),
+      (λ is. same.0 (subst (λ (ns : List ℕ). IsFirstGroupFault grid ns fault) read ((exact fault).0 is))),
+      (λ first. (exact fault).1 (subst (λ (ns : List ℕ). IsFirstGroupFault grid ns fault) (sym read) (same.1 first))),
     )
 
 -- one text more, and its group
-pub groups_more : (grid : Grid) (texts : List (List ℕ)) (groups : List Selection) (text : List ℕ) (g : Selection) → AreGroupsOf grid texts groups → IsGroupOf grid text g → AreGroupsOf grid (texts ++ text ∷ []) (groups ++ g ∷ [])
+pub groups_more : (grid : ShapeModel) (texts : List (List ℕ)) (groups : List GroupModel) (text : List ℕ) (g : GroupModel) → AreGroupsOf grid texts groups → IsGroupOf grid text g → AreGroupsOf grid (texts ++ text ∷ []) (groups ++ g ∷ [])
 groups_more grid [] [] text g made more = (more, tt)
 groups_more grid [] (h ∷ groups) text g made more = absurd made
 groups_more grid (t ∷ texts) [] text g made more = absurd made
 groups_more grid (t ∷ texts) (h ∷ groups) text g made more = (made.0, groups_more grid texts groups text g made.1 more)
 
 -- all groups are of the grid
-pub groups_fit : (grid : Grid) (texts : List (List ℕ)) (groups : List Selection) → AreGroupsOf grid texts groups → (k : ℕ) (d : Selection) → k < length groups → (get_or groups k d).grid ≡ grid
+pub groups_fit : (grid : ShapeModel) (texts : List (List ℕ)) (groups : List GroupModel) → AreGroupsOf grid texts groups → (k : ℕ) (d : GroupModel) → k < length groups → (get_or groups k d).grid ≡ grid
 groups_fit grid texts [] made k d within = absurd (omega (arith, within))
 groups_fit grid [] (g ∷ groups) made k d within = absurd made
 groups_fit grid (t ∷ texts) (g ∷ groups) made zero d within = made.0.sides
@@ -161,7 +161,7 @@ groups_fit grid (t ∷ texts) (g ∷ groups) made (suc k) d within = groups_fit 
 -- ---- The goal that words say, and that these words have no fault.
 
 -- a word spells one number
-one_number : (word : List ℕ) (n m : ℕ) → Spells word n → Spells word m → m ≡ n
+one_number : (word : List ℕ) (n m : ℕ) → SpellsNumber word n → SpellsNumber word m → m ≡ n
 one_number word n m first second = sym second.value ∙ first.value
 
 -- words spell one list of numbers
@@ -183,19 +183,19 @@ some_word : (word found : List ℕ) → Some word ≡ Some found → word ≡ fo
 some_word word found e = cc
 
 -- the word at a place spells the number there
-spelled_at : (words : List (List ℕ)) (ns : List ℕ) (place : ℕ) (word : List ℕ) → SpellEach words ns → slice_get words place ≡ Some word → Spells word (get_or ns place 0)
+spelled_at : (words : List (List ℕ)) (ns : List ℕ) (place : ℕ) (word : List ℕ) → SpellEach words ns → slice_get words place ≡ Some word → SpellsNumber word (get_or ns place 0)
 spelled_at [] ns place word spelled at = absurd (omega (arith, slice_get_within [] place word at))
 spelled_at (first ∷ words) [] place word spelled at = absurd spelled
-spelled_at (first ∷ words) (n ∷ ns) zero word spelled at = subst (λ (w : List ℕ). Spells w n) (some_word first word at) spelled.0
+spelled_at (first ∷ words) (n ∷ ns) zero word spelled at = subst (λ (w : List ℕ). SpellsNumber w n) (some_word first word at) spelled.0
 spelled_at (first ∷ words) (n ∷ ns) (suc place) word spelled at = spelled_at words ns place word spelled.1 at
 
-pub one_goal : (grid : Grid) (text : List ℕ) (goal goal' : Position) → IsGoalOf grid text goal → IsGoalOf grid text goal' → goal' ≡ goal
+pub one_goal : (grid : ShapeModel) (text : List ℕ) (goal goal' : BoardModel) → IsGoalOf grid text goal → IsGoalOf grid text goal' → goal' ≡ goal
 one_goal grid text goal goal' said said' =
     let tiles : goal'.tiles ≡ goal.tiles = same_numbers (comma_words text) goal.tiles goal'.tiles said.spelled said'.spelled in
     let sides : goal'.grid ≡ goal.grid = said'.sides ∙ sym said.sides in
     λ i. record { grid = sides i; tiles = tiles i }
 
-pub no_goal_fault : (grid : Grid) (text : List ℕ) (goal : Position) (fault : TilesFault) → IsGoalOf grid text goal → IsFirstWordFault grid (comma_words text) fault → ⊥
+pub no_goal_fault : (grid : ShapeModel) (text : List ℕ) (goal : BoardModel) (fault : TilesFault) → IsGoalOf grid text goal → IsFirstWordFault grid (comma_words text) fault → ⊥
 no_goal_fault grid text goal fault said first = by_fault fault first
   where
     words : List (List ℕ)

@@ -2,7 +2,7 @@
 use Rattle.std.specs.Prelude.{ℕ, ◌+◌, ◌-◌, ◌*◌, List, min, map, nat_le, if◌then◌else◌}
 use Rattle.std.specs.List.{range_with_len}
 use Rattle.std.specs.Int.{div_ceil}
-use Rattle.board.specs.Grids.{Grid, cell_count}
+use Rattle.board.specs.Shapes.{ShapeModel, cell_count}
 
 -- how many tiles a group has, by the count of cells
 abbrev pub default_size : ℕ → ℕ
@@ -13,7 +13,7 @@ abbrev pub default_tiles : ℕ → ℕ → ℕ → List ℕ
 default_tiles cells size place = range_with_len (1 + place * size) (min size (cells - (1 + place * size)))
 
 -- the tiles in rising order, cut into groups of this size, of which the last may be smaller
-abbrev pub default_groups : Grid → List (List ℕ)
+abbrev pub default_groups : ShapeModel → List (List ℕ)
 default_groups grid =
     let cells = cell_count grid in
     let size = default_size cells in

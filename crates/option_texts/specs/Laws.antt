@@ -1,64 +1,64 @@
 -- The laws of texts of goals, of costs and of groups, and of groups where none are named. Each is the contract of a function that does nothing.
 use Rattle.std.specs.Prelude.{ℕ, ◌≡◌, ◌-◌, List, ⊤}
 use Rattle.std.specs.List.{concat, range_with_len}
-use Rattle.board.specs.Grids.{Grid, IsShape, cell_count}
-use Rattle.board.specs.Positions.{Position}
-use Rattle.board.specs.CostRules.{CostRule}
+use Rattle.board.specs.Shapes.{ShapeModel, IsShape, cell_count}
+use Rattle.board.specs.Boards.{BoardModel}
+use Rattle.board.specs.Weights.{WeightsModel}
 use Rattle.board.specs.declared.faults.TilesFault.{TilesFault}
 use Rattle.board.specs.declared.faults.WeightsFault.{WeightsFault}
 use Rattle.batch_lines.specs.Words.{IsFirstWordFault}
-use Rattle.pattern_index.specs.Splits.{Split, IsSplit}
+use Rattle.pattern_index.specs.Partitions.{PartitionModel, IsPartition}
 use Rattle.option_texts.specs.declared.faults.GroupsFault.{GroupsFault}
 use Rattle.option_texts.specs.declared.faults.GroupsFault.TheVariants.{NoGroup, NoPartition, Memory}
-use Rattle.option_texts.specs.Texts.{comma_words, IsGoalOf, AreCostsOf, AreGroupsOf}
+use Rattle.option_texts.specs.Texts.{comma_words, IsGoalOf, SaysCosts, AreGroupsOf}
 use Rattle.option_texts.specs.Faults.{IsFirstCostsFault, IsFirstGroupsFault}
 use Rattle.option_texts.specs.Defaults.{default_groups}
 
 -- a text says one goal at most
 abbrev pub GoalsAreDetermined : Type 0
-GoalsAreDetermined = (grid : Grid) (text : List ℕ) (goal goal' : Position) → IsGoalOf grid text goal → IsGoalOf grid text goal' → goal' ≡ goal
+GoalsAreDetermined = (grid : ShapeModel) (text : List ℕ) (goal goal' : BoardModel) → IsGoalOf grid text goal → IsGoalOf grid text goal' → goal' ≡ goal
 
 -- a text that says a goal has no fault
 abbrev pub GoalsHaveNoFault : Type 0
-GoalsHaveNoFault = (grid : Grid) (text : List ℕ) (goal : Position) (fault : TilesFault) → IsGoalOf grid text goal → ¬ IsFirstWordFault grid (comma_words text) fault
+GoalsHaveNoFault = (grid : ShapeModel) (text : List ℕ) (goal : BoardModel) (fault : TilesFault) → IsGoalOf grid text goal → ¬ IsFirstWordFault grid (comma_words text) fault
 
 -- a text says one rule of costs at most
 abbrev pub CostsAreDetermined : Type 0
-CostsAreDetermined = (grid : Grid) (text : List ℕ) (rule rule' : CostRule) → AreCostsOf grid text rule → AreCostsOf grid text rule' → rule' ≡ rule
+CostsAreDetermined = (grid : ShapeModel) (text : List ℕ) (rule rule' : WeightsModel) → SaysCosts grid text rule → SaysCosts grid text rule' → rule' ≡ rule
 
 -- a text that says costs has no fault
 abbrev pub CostsHaveNoFault : Type 0
-CostsHaveNoFault = (grid : Grid) (text : List ℕ) (rule : CostRule) (fault : WeightsFault) → AreCostsOf grid text rule → ¬ IsFirstCostsFault grid text fault
+CostsHaveNoFault = (grid : ShapeModel) (text : List ℕ) (rule : WeightsModel) (fault : WeightsFault) → SaysCosts grid text rule → ¬ IsFirstCostsFault grid text fault
 
 -- and none has two
 abbrev pub CostFaultsAreDetermined : Type 0
-CostFaultsAreDetermined = (grid : Grid) (text : List ℕ) (fault fault' : WeightsFault) → IsFirstCostsFault grid text fault → IsFirstCostsFault grid text fault' → fault' ≡ fault
+CostFaultsAreDetermined = (grid : ShapeModel) (text : List ℕ) (fault fault' : WeightsFault) → IsFirstCostsFault grid text fault → IsFirstCostsFault grid text fault' → fault' ≡ fault
 
 -- the fault is that memory is refused, of which the texts say nothing
-abbrev pub IsRefusal : GroupsFault → Type 0
-IsRefusal (NoGroup fault) = ⊥
-IsRefusal (NoPartition fault) = ⊥
-IsRefusal (Memory refused) = ⊤
+abbrev pub IsMemoryRefusal : GroupsFault → Type 0
+IsMemoryRefusal (NoGroup fault) = ⊥
+IsMemoryRefusal (NoPartition fault) = ⊥
+IsMemoryRefusal (Memory refused) = ⊤
 
 -- texts that say the groups of a partition have no other fault
 abbrev pub PartitionsHaveNoFault : Type 0
 PartitionsHaveNoFault =
-    (split : Split) (texts : List (List ℕ)) (fault : GroupsFault)
-    → IsSplit split
+    (split : PartitionModel) (texts : List (List ℕ)) (fault : GroupsFault)
+    → IsPartition split
     → AreGroupsOf split.grid texts split.groups
     → IsFirstGroupsFault split.grid texts fault
-    → IsRefusal fault
+    → IsMemoryRefusal fault
 
 -- and no texts have two
 abbrev pub FaultsAreDetermined : Type 0
 FaultsAreDetermined =
-    (grid : Grid) (texts : List (List ℕ)) (fault fault' : GroupsFault)
-    → ¬ IsRefusal fault
-    → ¬ IsRefusal fault'
+    (grid : ShapeModel) (texts : List (List ℕ)) (fault fault' : GroupsFault)
+    → ¬ IsMemoryRefusal fault
+    → ¬ IsMemoryRefusal fault'
     → IsFirstGroupsFault grid texts fault
     → IsFirstGroupsFault grid texts fault'
     → fault' ≡ fault
 
 -- where no groups are named, they have each tile once, in rising order
 abbrev pub DefaultsHaveEachTile : Type 0
-DefaultsHaveEachTile = (grid : Grid) → IsShape grid → concat (default_groups grid) ≡ range_with_len 1 (cell_count grid - 1)
+DefaultsHaveEachTile = (grid : ShapeModel) → IsShape grid → concat (default_groups grid) ≡ range_with_len 1 (cell_count grid - 1)

@@ -2,7 +2,7 @@
 
 ghost use Rattle.std.specs.Prelude.{◌≡◌, ◌+◌, ◌<◌, ◌≤◌, ◌⊎◌, IfOk, map};
 ghost use Rattle.std.specs.List.{range_with_len};
-ghost use Rattle.board.specs.Grids.{cell_count};
+ghost use Rattle.board.specs.Shapes.{cell_count};
 ghost use Rattle.option_texts.specs.Defaults.{default_size, default_groups};
 
 use arrayvec::ArrayVec;

@@ -1,7 +1,7 @@
 //! Groups that texts say.
 
 ghost use Rattle.std.specs.Prelude.{◌≡◌, ◌↔◌, IfOk, IfErr, IsErrOf, take};
-ghost use Rattle.pattern_index.specs.Faults.{IsFirstFault};
+ghost use Rattle.pattern_index.specs.Faults.{IsFirstGroupFault};
 ghost use Rattle.pattern_index.specs.declared.faults.GroupFault.{GroupFault};
 ghost use Rattle.option_texts.specs.Texts.{group_texts, group_numbers, IsGroupOf, AreGroupsOf};
 ghost use Rattle.option_texts.specs.Faults.{IsFirstGroupsFault};
@@ -60,7 +60,7 @@ fn groups_in(alloc: Global, shape: Shape, text: &str) -> Result<Vec<Group>, Grou
 fn read_group(shape: Shape, text: &str) -> Result<Group, GroupFault>
     ensures group { IfOk result (IsGroupOf shape text.now) }
     ensures fault { (fault : GroupFault) → IsErrOf result fault
-        ↔ IsFirstFault shape (group_numbers text.now) fault }
+        ↔ IsFirstGroupFault shape (group_numbers text.now) fault }
 {
     // What the last clause needs of the shape, that it is one, is told by this call.
     let _ = shape.cells();

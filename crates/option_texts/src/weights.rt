@@ -2,7 +2,7 @@
 
 ghost use Rattle.std.specs.Prelude.{◌≡◌, ◌↔◌, IfOk, IsErrOf, map, take};
 ghost use Rattle.board.specs.declared.faults.WeightsFault.{WeightsFault};
-ghost use Rattle.option_texts.specs.Texts.{comma_words, AreCostsOf};
+ghost use Rattle.option_texts.specs.Texts.{comma_words, SaysCosts};
 ghost use Rattle.option_texts.specs.Texts.{weight_number};
 ghost use Rattle.option_texts.specs.Faults.{IsFirstCostsFault};
 
@@ -14,7 +14,7 @@ use board::{Shape, Weights, WeightsFault};
 /// order, with commas between. Or the first fault: E13 where there are more words than tiles or
 /// fewer, else E14 at the first word that is no number from 1 to 255.
 pub fn read_costs(shape: Shape, text: &str) -> Result<Weights, WeightsFault>
-    ensures costs { IfOk result (AreCostsOf shape text.now) }
+    ensures costs { IfOk result (SaysCosts shape text.now) }
     ensures fault { (fault : WeightsFault) → IsErrOf result fault
         ↔ IsFirstCostsFault shape text.now fault }
 {

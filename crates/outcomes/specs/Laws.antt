@@ -4,7 +4,7 @@ use Rattle.std.specs.declared.alloc.Global.{Global}
 use Rattle.memory.specs.declared.OutOfMemory.{OutOfMemory}
 use Rattle.board.specs.declared.costs.TheConstants.{GREATEST_COST}
 use Rattle.board.specs.declared.moves.Move.{Move}
-use Rattle.board.specs.Positions.{Position}
+use Rattle.board.specs.Boards.{BoardModel}
 use Rattle.board.specs.Plans.{Leads}
 use Rattle.board.specs.Classes.{SameClass}
 use Rattle.board.specs.Rows.{Proves}
@@ -22,7 +22,7 @@ use Rattle.outcomes.specs.Endings.{EndAnswers, without_rows}
 -- optimal outcomes of one task have one cost
 abbrev pub OptimalsAgree : Type 0
 OptimalsAgree =
-    (task : Task) (c d : ℕ) (plan plan' : Vec Move Global) (rows rows' : Vec (Position × ℕ) Global)
+    (task : Task) (c d : ℕ) (plan plan' : Vec Move Global) (rows rows' : Vec (BoardModel × ℕ) Global)
     → Answers task (Optimal c plan rows)
     → Answers task (Optimal d plan' rows')
     → c ≡ d
@@ -30,14 +30,14 @@ OptimalsAgree =
 -- no task has an optimal outcome and is unsolvable
 abbrev pub OptimalsAreSolvable : Type 0
 OptimalsAreSolvable =
-    (task : Task) (c : ℕ) (plan : Vec Move Global) (rows : Vec (Position × ℕ) Global) (why : Why)
+    (task : Task) (c : ℕ) (plan : Vec Move Global) (rows : Vec (BoardModel × ℕ) Global) (why : Why)
     → Answers task (Optimal c plan rows)
     → ¬ Answers task (Unsolvable why)
 
 -- a bound is at most the optimal cost
 abbrev pub BoundsAreBelow : Type 0
 BoundsAreBelow =
-    (task : Task) (c bound : ℕ) (plan : Vec Move Global) (rows : Vec (Position × ℕ) Global) (best : Option (ℕ × Vec Move Global)) (cause : Cause) (below : Option (Vec (Position × ℕ) Global))
+    (task : Task) (c bound : ℕ) (plan : Vec Move Global) (rows : Vec (BoardModel × ℕ) Global) (best : Option (ℕ × Vec Move Global)) (cause : Cause) (below : Option (Vec (BoardModel × ℕ) Global))
     → Answers task (Optimal c plan rows)
     → Answers task (Bounded bound best cause below)
     → bound ≤ c
@@ -49,14 +49,14 @@ ParityIsOfAnotherClass = (task : Task) → Answers task (Unsolvable Parity) → 
 -- the best plan beside a bound leads to the goal, at a cost above the bound
 abbrev pub BestPlansAreAbove : Type 0
 BestPlansAreAbove =
-    (task : Task) (bound cost : ℕ) (plan : Vec Move Global) (cause : Cause) (rows : Option (Vec (Position × ℕ) Global))
+    (task : Task) (bound cost : ℕ) (plan : Vec Move Global) (cause : Cause) (rows : Option (Vec (BoardModel × ℕ) Global))
     → Answers task (Bounded bound (Some (cost, plan)) cause rows)
     → Leads task.rule task.start plan.items task.goal cost × (bound < cost)
 
 -- the rows of a bound prove it by themselves
 abbrev pub RowsProveBounds : Type 0
 RowsProveBounds =
-    (task : Task) (bound : ℕ) (best : Option (ℕ × Vec Move Global)) (cause : Cause) (rows : Vec (Position × ℕ) Global)
+    (task : Task) (bound : ℕ) (best : Option (ℕ × Vec Move Global)) (cause : Cause) (rows : Vec (BoardModel × ℕ) Global)
     → Answers task (Bounded bound best cause (Some rows))
     → Proves task.rule rows.items task.sum task.start task.goal bound
 
@@ -70,8 +70,8 @@ BoundsLackRowsForMemory =
 -- rows prove the cost of each plan that an ending says is least, and each bound, though the ending doesn't list them; they are such as an outcome has
 abbrev pub EndingsHaveProofs : Type 0
 EndingsHaveProofs =
-    ((task : Task) (cost : ℕ) (plan : Vec Move Global) → EndAnswers task (ending.Optimal cost plan) → (rows : List (Position × ℕ)) × AreRowsOf task rows cost)
-    × ((task : Task) (bound : ℕ) (best : Option (ℕ × Vec Move Global)) (cause : Cause) → EndAnswers task (ending.Bounded bound best cause) → (rows : List (Position × ℕ)) × AreRowsOf task rows bound)
+    ((task : Task) (cost : ℕ) (plan : Vec Move Global) → EndAnswers task (ending.Optimal cost plan) → (rows : List (BoardModel × ℕ)) × AreRowsOf task rows cost)
+    × ((task : Task) (bound : ℕ) (best : Option (ℕ × Vec Move Global)) (cause : Cause) → EndAnswers task (ending.Bounded bound best cause) → (rows : List (BoardModel × ℕ)) × AreRowsOf task rows bound)
 
 -- no bound is below the heuristic of the start
 abbrev pub BoundsReachTheStart : Type 0

@@ -4,8 +4,8 @@ use Rattle.std.specs.declared.alloc.Global.{Global}
 use Rattle.memory.specs.declared.OutOfMemory.{OutOfMemory}
 use Rattle.board.specs.declared.costs.TheConstants.{GREATEST_COST, GREATEST_EXPANDED_COST}
 use Rattle.board.specs.declared.moves.Move.{Move}
-use Rattle.board.specs.Positions.{Position, IsBoard}
-use Rattle.board.specs.CostRules.{CostRule}
+use Rattle.board.specs.Boards.{BoardModel, IsBoard}
+use Rattle.board.specs.Weights.{WeightsModel}
 use Rattle.board.specs.Plans.{Leads, NothingBelow, IsLeast}
 use Rattle.board.specs.Classes.{SameClass}
 use Rattle.board.specs.Keys.{key_of}
@@ -20,10 +20,10 @@ use Rattle.outcomes.specs.declared.outcome.Outcome.TheVariants.{Optimal, Unsolva
 
 -- what is asked: the plans from the start to the goal under a cost rule; sum is the heuristic that guides the search
 pub record Task : Type 0 where
-  pub start : Position
-  pub goal : Position
-  pub rule : CostRule
-  pub sum : Position → ℕ
+  pub start : BoardModel
+  pub goal : BoardModel
+  pub rule : WeightsModel
+  pub sum : BoardModel → ℕ
 
 -- the best plan leads to the goal at its cost, which is above the bound
 abbrev pub IsBestPlan : Task → ℕ → Option (ℕ × List Move) → Type 0
@@ -31,7 +31,7 @@ IsBestPlan task bound None = ⊤
 IsBestPlan task bound (Some best) = Leads task.rule task.start best.1 task.goal best.0 × (bound < best.0)
 
 -- The rows prove the cost, and rise by key. Each is a board with the sides of the goal, and its cost is at most `GREATEST_COST`.
-pub record AreRowsOf (task : Task) (rows : List (Position × ℕ)) (cost : ℕ) : Type 0 where
+pub record AreRowsOf (task : Task) (rows : List (BoardModel × ℕ)) (cost : ℕ) : Type 0 where
   pub proves : Proves task.rule rows task.sum task.start task.goal cost
   pub rising : AllPairs (λ row later. key_of row.0 < key_of later.0) rows
   pub boards : All (λ row. IsBoard row.0 × (row.0.grid ≡ task.goal.grid)) rows
@@ -39,7 +39,7 @@ pub record AreRowsOf (task : Task) (rows : List (Position × ℕ)) (cost : ℕ) 
 
 -- rows that prove the cost exist, whether or not there is memory to list them
 abbrev pub HasProof : Task → ℕ → Type 0
-HasProof task cost = (rows : List (Position × ℕ)) × AreRowsOf task rows cost
+HasProof task cost = (rows : List (BoardModel × ℕ)) × AreRowsOf task rows cost
 
 -- parity is named only where the start isn't in the goal's class
 abbrev pub AllowsWhy : Task → Why → Type 0
@@ -61,7 +61,7 @@ best_of (Some best) = Some (best.0, best.1.items)
 
 -- no board of the goal's shape has a greater sum
 abbrev pub IsAboveSums : Task → ℕ → Type 0
-IsAboveSums task most = (b : Position) → IsBoard b → b.grid ≡ task.goal.grid → task.sum b ≤ most
+IsAboveSums task most = (b : BoardModel) → IsBoard b → b.grid ≡ task.goal.grid → task.sum b ≤ most
 
 -- No plan costs less than the bound, which is at least the heuristic of the start, and at most the sum of `GREATEST_COST` and of what no
 -- board's heuristic is above; and the best plan and the cause are as they may be.

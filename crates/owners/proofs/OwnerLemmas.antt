@@ -6,9 +6,9 @@ use Rattle.std.proofs.lemmas.Grind.{same_number_lists}
 use Rattle.std.proofs.lemmas.List.{get_or-map, get_or-set_other, get_or-set_same, length-map, length-set}
 use Rattle.std.proofs.lemmas.List.Elements.{All-get_or}
 use Rattle.std.proofs.lemmas.Nat.{xor_comm}
-use Rattle.board.specs.Grids.{Grid, cell_count}
+use Rattle.board.specs.Shapes.{ShapeModel, cell_count}
 use Rattle.board.specs.Moves.{blank_exchange}
-use Rattle.board.specs.Positions.{Position, IsBoard, blank_of, cell_of}
+use Rattle.board.specs.Boards.{BoardModel, IsBoard, blank_of, cell_of}
 use Rattle.board.proofs.MoveLemmas.{blank_after}
 use Rattle.board.proofs.TileLemmas.{cell_is, has_cell}
 use Rattle.search_keys.specs.SearchKeys.{HasSearchKey}
@@ -59,7 +59,7 @@ hash_begun cells k (t ∷ ts) =
     ap (λ (x : ℕ). bit_xor (word_on cells x k) (hash_from cells (k + 1) (map (below 1) ts))) none ∙ hash_begun cells (k + 1) ts
 
 -- the tiles below n + 1 are those below n, and n on its cell
-pub tiles_more : (b : Position) (n : ℕ) → IsBoard b → n < cell_count b.grid → map (below (n + 1)) b.tiles ≡ set (map (below n) b.tiles) (cell_of b n) n
+pub tiles_more : (b : BoardModel) (n : ℕ) → IsBoard b → n < cell_count b.grid → map (below (n + 1)) b.tiles ≡ set (map (below n) b.tiles) (cell_of b n) n
 tiles_more b n board within =
     let place = cell_of b n in
     let stands = has_cell b board n within in
@@ -88,7 +88,7 @@ tiles_more b n board within =
     (cases_eq c place))
 
 -- the hash of the tiles below n + 1 is the exclusive or of that of the tiles below n and the word of tile n on its cell
-pub hash_more : (b : Position) (n hash : ℕ) → IsBoard b → n < cell_count b.grid → hash ≡ hash_from (cell_count b.grid) 0 (map (below n) b.tiles) → bit_xor hash (word_on (cell_count b.grid) n (cell_of b n)) ≡ hash_from (cell_count b.grid) 0 (map (below (n + 1)) b.tiles)
+pub hash_more : (b : BoardModel) (n hash : ℕ) → IsBoard b → n < cell_count b.grid → hash ≡ hash_from (cell_count b.grid) 0 (map (below n) b.tiles) → bit_xor hash (word_on (cell_count b.grid) n (cell_of b n)) ≡ hash_from (cell_count b.grid) 0 (map (below (n + 1)) b.tiles)
 hash_more b n hash board within is =
     let cells = cell_count b.grid in
     let place = cell_of b n in
@@ -104,7 +104,7 @@ hash_more b n hash board within is =
     ∙ ap (hash_from cells 0) (sym (tiles_more b n board within))
 
 -- the hash of all tiles is the board's
-pub hash_ended : (b : Position) (n hash : ℕ) → IsBoard b → cell_count b.grid ≤ n → hash ≡ hash_from (cell_count b.grid) 0 (map (below n) b.tiles) → hash ≡ hash_of b
+pub hash_ended : (b : BoardModel) (n hash : ℕ) → IsBoard b → cell_count b.grid ≤ n → hash ≡ hash_from (cell_count b.grid) 0 (map (below n) b.tiles) → hash ≡ hash_of b
 hash_ended b n hash board all is =
     let same : map (below n) b.tiles ≡ b.tiles =
     same_number_lists (map (below n) b.tiles) b.tiles (length-map b.tiles (below n))
@@ -117,15 +117,15 @@ hash_ended b n hash board all is =
 -- ---- the board after a slide
 
 -- two boards of a grid that have one search key are one
-pub one_board : (grid : Grid) (key : ℕ) (a b : Position) → HasSearchKey grid key a → HasSearchKey grid key b → a ≡ b
+pub one_board : (grid : ShapeModel) (key : ℕ) (a b : BoardModel) → HasSearchKey grid key a → HasSearchKey grid key b → a ≡ b
 one_board grid key a b has has' = same_board a b has.board has'.board (has.sides ∙ sym has'.sides) (has.packed ∙ sym has'.packed)
 
 -- the board with the key is that after the slide
-pub after_slide : (b c : Position) (moved : Moved) → IsMoved b moved → HasSearchKey moved.shape moved.key c → c ≡ blank_exchange b moved.slide.from
+pub after_slide : (b c : BoardModel) (moved : Moved) → IsMoved b moved → HasSearchKey moved.shape moved.key c → c ≡ blank_exchange b moved.slide.from
 after_slide b c moved is has = one_board moved.shape moved.key c (blank_exchange b moved.slide.from) has is.key
 
 -- and its blank is where the tile stood
-pub blank_moved : (b c : Position) (moved : Moved) → IsMoved b moved → HasSearchKey moved.shape moved.key c → blank_of c ≡ moved.slide.from
+pub blank_moved : (b c : BoardModel) (moved : Moved) → IsMoved b moved → HasSearchKey moved.shape moved.key c → blank_of c ≡ moved.slide.from
 blank_moved b c moved is has =
     let slide = is.slide in
-    ap blank_of (after_slide b c moved is has) ∙ blank_after b slide.board moved.slide.from (subst (λ (grid : Grid). moved.slide.from < cell_count grid) (sym slide.sides) slide.within)
+    ap blank_of (after_slide b c moved is has) ∙ blank_after b slide.board moved.slide.from (subst (λ (grid : ShapeModel). moved.slide.from < cell_count grid) (sym slide.sides) slide.within)

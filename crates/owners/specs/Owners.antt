@@ -1,8 +1,8 @@
 -- Who owns which board: by the cell of its blank, or by its hash, the exclusive or of one word for each tile and the cell on which it stands (Zobrist 1970).
 use Rattle.std.specs.Prelude.{ℕ, zero, suc, ◌≡◌, ◌+◌, ◌-◌, ◌*◌, ◌%◌, ◌<◌, ◌==◌, if◌then◌else◌, List, [], ◌∷◌, length, slice_index, bit_xor}
 use Rattle.std.proofs.Math.Nat.{mod-lt}
-use Rattle.board.specs.Grids.{cell_count}
-use Rattle.board.specs.Positions.{Position, blank_of}
+use Rattle.board.specs.Shapes.{cell_count}
+use Rattle.board.specs.Boards.{BoardModel, blank_of}
 use Rattle.rand_xoshiro.specs.SplitMix64.{mix_u64}
 
 -- the state of SplitMix64 after this number of words, from eight zero bytes on
@@ -28,24 +28,24 @@ hash_from cells cell [] = 0
 hash_from cells cell (tile ∷ tiles) = bit_xor (word_on cells tile cell) (hash_from cells (cell + 1) tiles)
 
 -- the hash of a board
-abbrev pub hash_of : Position → ℕ
+abbrev pub hash_of : BoardModel → ℕ
 hash_of b = hash_from (cell_count b.grid) 0 b.tiles
 
 -- by each spread, the owner of a board among n workers is one of them
-abbrev pub AreWorkers : {S : Type 0} → (S → ℕ → Position → ℕ) → Type 0
-AreWorkers {S} owner_of = (spread : S) (n : ℕ) (b : Position) → 0 < n → owner_of spread n b < n
+abbrev pub AreWorkers : {S : Type 0} → (S → ℕ → BoardModel → ℕ) → Type 0
+AreWorkers {S} owner_of = (spread : S) (n : ℕ) (b : BoardModel) → 0 < n → owner_of spread n b < n
 
 -- the owner of a board among n workers, by the cell of its blank
-abbrev pub owner_by_blank : ℕ → Position → ℕ
+abbrev pub owner_by_blank : ℕ → BoardModel → ℕ
 owner_by_blank n b = blank_of b % n
 
 -- and by its hash
-abbrev pub owner_by_hash : ℕ → Position → ℕ
+abbrev pub owner_by_hash : ℕ → BoardModel → ℕ
 owner_by_hash n b = hash_of b % n
 
 -- both are one of the workers
-pub owner_by_blank-lt : (n : ℕ) (b : Position) → 0 < n → owner_by_blank n b < n
+pub owner_by_blank-lt : (n : ℕ) (b : BoardModel) → 0 < n → owner_by_blank n b < n
 owner_by_blank-lt n b some = mod-lt (blank_of b) some
 
-pub owner_by_hash-lt : (n : ℕ) (b : Position) → 0 < n → owner_by_hash n b < n
+pub owner_by_hash-lt : (n : ℕ) (b : BoardModel) → 0 < n → owner_by_hash n b < n
 owner_by_hash-lt n b some = mod-lt (hash_of b) some

@@ -1,14 +1,14 @@
 -- A tile that moves onto the blank's cell, and the board to which that leads.
 use Rattle.std.specs.Prelude.{◌≡◌, ◌<◌, slice_index}
-use Rattle.board.specs.Grids.{Grid, cell_count}
+use Rattle.board.specs.Shapes.{ShapeModel, cell_count}
 use Rattle.board.specs.Moves.{blank_exchange}
-use Rattle.board.specs.Positions.{Position, IsBoard, blank_of}
+use Rattle.board.specs.Boards.{BoardModel, IsBoard, blank_of}
 use Rattle.search_keys.specs.SearchKeys.{HasSearchKey}
 use Rattle.owners.specs.declared.spread.Moved.{Moved}
 use Rattle.owners.specs.declared.spread.Slide.{Slide}
 
 -- on this board, which has this grid, the tile stands where the slide says, and so does the blank
-pub record IsSlide (grid : Grid) (b : Position) (slide : Slide) : Type 0 where
+pub record IsSlide (grid : ShapeModel) (b : BoardModel) (slide : Slide) : Type 0 where
   pub board : IsBoard b
   pub sides : b.grid ≡ grid
   pub within : slide.from < cell_count grid
@@ -17,6 +17,6 @@ pub record IsSlide (grid : Grid) (b : Position) (slide : Slide) : Type 0 where
   pub blank : blank_of b ≡ slide.to
 
 -- the slide leads from this board to the one with the search key
-pub record IsMoved (b : Position) (moved : Moved) : Type 0 where
+pub record IsMoved (b : BoardModel) (moved : Moved) : Type 0 where
   pub slide : IsSlide moved.shape b moved.slide
   pub key : HasSearchKey moved.shape moved.key (blank_exchange b moved.slide.from)

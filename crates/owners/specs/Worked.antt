@@ -1,6 +1,6 @@
 -- Words, hashes and owners that are known.
 use Rattle.std.specs.Prelude.{ℕ, ◌≡◌, List, [], ◌∷◌}
-use Rattle.board.specs.Positions.{Position, goal_of}
+use Rattle.board.specs.Boards.{BoardModel, goal_of}
 use Rattle.owners.specs.Owners.{word, hash_of, owner_by_blank, owner_by_hash}
 
 -- the first words of SplitMix64 from eight zero bytes on
@@ -12,17 +12,17 @@ abbrev pub GoalHashes : Type 0
 GoalHashes = (hash_of (goal_of (record { rows = 3; cols = 3 })) ≡ 8092573467260377517) × (hash_of (goal_of (record { rows = 2; cols = 3 })) ≡ 15528752151008016516)
 
 -- a board of 2 by 2 and one of 5 by 5, each with the blank on its last cell
-abbrev small : Position
+abbrev small : BoardModel
 small = record { grid = record { rows = 2; cols = 2 }; tiles = 3 ∷ 2 ∷ 1 ∷ 0 ∷ [] }
 
-abbrev large : Position
+abbrev large : BoardModel
 large = record {
   grid = record { rows = 5; cols = 5 };
   tiles = 14 ∷ 5 ∷ 9 ∷ 2 ∷ 18 ∷ 8 ∷ 23 ∷ 19 ∷ 12 ∷ 17 ∷ 15 ∷ 13 ∷ 10 ∷ 20 ∷ 4 ∷ 6 ∷ 11 ∷ 21 ∷ 1 ∷ 7 ∷ 24 ∷ 3 ∷ 16 ∷ 22 ∷ 0 ∷ [];
 }
 
 -- the owners of a board among 2, 3, 5 and 16 workers
-abbrev owners_of : (ℕ → Position → ℕ) → Position → List ℕ
+abbrev owners_of : (ℕ → BoardModel → ℕ) → BoardModel → List ℕ
 owners_of owner_among b = owner_among 2 b ∷ owner_among 3 b ∷ owner_among 5 b ∷ owner_among 16 b ∷ []
 
 -- the owners of the two boards by their blanks, and by their hashes, whose remainders another program computed

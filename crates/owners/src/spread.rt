@@ -1,7 +1,7 @@
 //! Ways to divide boards among workers.
 
 ghost use Rattle.std.specs.Prelude.{◌≡◌, ◌<◌, ◌%◌, ℕ, Option, None};
-ghost use Rattle.board.specs.Positions.{Position};
+ghost use Rattle.board.specs.Boards.{BoardModel};
 ghost use Rattle.search_keys.specs.SearchKeys.{HasSearchKey};
 ghost use Rattle.owners.specs.Owners.{AreWorkers};
 ghost use Rattle.owners.specs.Slides.{IsMoved};
@@ -35,10 +35,10 @@ pub struct Moved {
 /// alone gives `owner_after`, and None as the hash.
 pub trait Spread {
     /// The owner of a board among a number of workers, which are numbered from 0.
-    ghost owner_of: { Self → ℕ → Position → ℕ };
+    ghost owner_of: { Self → ℕ → BoardModel → ℕ };
 
     /// The hash of a board, from a spread that has hashes; from one that has none, None.
-    ghost hash_of: { Self → Position → Option ℕ } = { λ s b. None };
+    ghost hash_of: { Self → BoardModel → Option ℕ } = { λ s b. None };
 
     /// The worker that owns a board, of `workers` workers.
     fn owner(&self, board: &Board, workers: usize) -> usize
@@ -66,8 +66,8 @@ pub trait Spread {
     /// answers for the board before the slide.
     fn owner_after(&self, hash: Option<u64>, moved: Moved, workers: usize) -> usize
         requires some { 0 < workers }
-        requires moved { (b : Position) × IsMoved b moved × (hash ≡ hash_of self.now b) }
-        ensures { (b : Position) → HasSearchKey moved.shape moved.key b
+        requires moved { (b : BoardModel) × IsMoved b moved × (hash ≡ hash_of self.now b) }
+        ensures { (b : BoardModel) → HasSearchKey moved.shape moved.key b
             → result ≡ owner_of self.now workers b }
     {
         let _ = hash;

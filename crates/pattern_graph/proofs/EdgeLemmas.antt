@@ -10,7 +10,7 @@ use Rattle.std.proofs.lemmas.Option.{slice_get-get_or, slice_get_within, get_or_
 use Rattle.board.specs.declared.moves.Move.{Move}
 use Rattle.board.specs.declared.moves.Move.TheVariants.{U, L, R, D}
 use Rattle.board.specs.Equality.{number_of}
-use Rattle.board.specs.Grids.{Grid, cell_count}
+use Rattle.board.specs.Shapes.{ShapeModel, cell_count}
 use Rattle.board.specs.Moves.{all_moves}
 use Rattle.board.specs.Neighbours.{LiesTowards, opposite}
 use Rattle.board.proofs.MoveLemmas.{cell_below}
@@ -23,7 +23,7 @@ use Rattle.pattern_index.proofs.ViewMoveLemmas.{lies_back}
 use Rattle.pattern_graph.specs.Orders.{below}
 use Rattle.pattern_graph.specs.Sets.{choose, set_place, set_at, AreSame, replaced}
 use Rattle.pattern_graph.specs.Regions.{IsPlaced, IsFree, IsRegions, HasRegions, region_in, IsCrossing, IsEdgeOf, AreEdges}
-use Rattle.pattern_graph.specs.Edges.{IsRising, IsStep, IsStepEdge, AreFound, HasFound, IsTrueEdge, AreAdded}
+use Rattle.pattern_graph.specs.Edges.{IsRising, IsStep, IsStepEdge, AreEdgesFound, HasFound, IsTrueEdge, AreEdgesAdded}
 use Rattle.pattern_graph.proofs.OrderTables.{factorial_some}
 use Rattle.pattern_graph.proofs.SetLemmas.{place_below, same_place, set_is, set_below}
 use Rattle.pattern_graph.proofs.OrderLemmas.{in_map, from_map, same_below, replaced_listing}
@@ -109,7 +109,7 @@ still_placed r xs tile to placed inside free =
 
 -- ---- the edges found so far
 
-pub found_none : (r : Regions) (cells : List ℕ) (region : ℕ) → AreFound r cells region 0 []
+pub found_none : (r : Regions) (cells : List ℕ) (region : ℕ) → AreEdgesFound r cells region 0 []
 found_none r cells region = record {
   few = omega arith;
   sound = λ e has. absurd (omega (arith, has.1));
@@ -120,7 +120,7 @@ pub tried_same : (r : Regions) (cells : List ℕ) (region tried next : ℕ) (old
 tried_same r cells region tried next old new same found = subst (λ (k : ℕ). HasFound r cells region k old new) same found
 
 -- a cell has one neighbour in a direction
-one_neighbour : (grid : Grid) (m : Move) (from to other : ℕ) → from < cell_count grid → LiesTowards grid m from to → LiesTowards grid m from other → to ≡ other
+one_neighbour : (grid : ShapeModel) (m : Move) (from to other : ℕ) → from < cell_count grid → LiesTowards grid m from to → LiesTowards grid m from other → to ≡ other
 one_neighbour grid m from to other inside lies also = same_Some to other (sym ((neighbour_lies grid m from to inside).1 lies) ∙ (neighbour_lies grid m from other inside).1 also)
 
 -- the tile and direction tried last, or some before
@@ -131,7 +131,7 @@ last_or_before tile number t k low k_low within =
     (cases_lt (t * 4 + k) (tile * 4 + number))
 
 -- the tile can't go in this direction to where the blank is
-pub found_past : (r : Regions) (cells : List ℕ) (region tile number : ℕ) (found : List Edge) → number < 4 → ((to : ℕ) → ¬ IsStep r cells region (get_or cells tile 0) (get_or all_moves number U) to) → AreFound r cells region (tile * 4 + number) found → AreFound r cells region (tile * 4 + (number + 1)) found
+pub found_past : (r : Regions) (cells : List ℕ) (region tile number : ℕ) (found : List Edge) → number < 4 → ((to : ℕ) → ¬ IsStep r cells region (get_or cells tile 0) (get_or all_moves number U) to) → AreEdgesFound r cells region (tile * 4 + number) found → AreEdgesFound r cells region (tile * 4 + (number + 1)) found
 found_past r cells region tile number found low none all = record {
   few = let few = all.few in omega arith;
   sound = all.sound;
@@ -142,7 +142,7 @@ found_past r cells region tile number found low none all = record {
 }
 
 -- the tile can go in this direction
-pub found_more : (r : Regions) (cells : List ℕ) (region tile number : ℕ) (found : List Edge) (e : Edge) → number < 4 → IsPlaced r.shape r.count cells → tile < r.count → IsStepEdge r cells region (get_or cells tile 0) (get_or all_moves number U) e → AreFound r cells region (tile * 4 + number) found → AreFound r cells region (tile * 4 + (number + 1)) (found ++ e ∷ [])
+pub found_more : (r : Regions) (cells : List ℕ) (region tile number : ℕ) (found : List Edge) (e : Edge) → number < 4 → IsPlaced r.shape r.count cells → tile < r.count → IsStepEdge r cells region (get_or cells tile 0) (get_or all_moves number U) e → AreEdgesFound r cells region (tile * 4 + number) found → AreEdgesFound r cells region (tile * 4 + (number + 1)) (found ++ e ∷ [])
 found_more r cells region tile number found e low placed tile_in one all = record {
   few = let few = all.few in omega (arith, length_push found e);
   sound = λ f has.
@@ -255,7 +255,7 @@ module _ (r : Regions) (regions : HasRegions r) (region : ℕ) (home : Home) (at
     edge_from from to e free edge = edge_same r (cell_count r.shape) home_cells xs from to e home_rising.placed.listing placed.listing same free.inside (λ h. free.free ((same to).0 h)) edge
 
   -- the edges found by the cells in rising order are those of the region
-  pub added_are : (old new found : List Edge) → new ≡ old ++ found → AreFound r home_cells region (r.count * 4) found → AreAdded r region old new
+  pub added_are : (old new found : List Edge) → new ≡ old ++ found → AreEdgesFound r home_cells region (r.count * 4) found → AreEdgesAdded r region old new
   added_are old new found is all = record {
     found = found;
     more = is;
@@ -315,7 +315,7 @@ has_from_get xs i e is = (i, slice_get_within xs i e is, get_or_from_slice_get x
 get_from_has : (xs : List Edge) (e : Edge) (has : Contains xs e) → slice_get xs has.0 ≡ Some e
 get_from_has xs e has = slice_get-get_or xs has.0 e has.1 ∙ ap Some has.2
 
-module _ (r : Regions) (done : ℕ) (starts : List ℕ) (edges edges' : List Edge) (all : AreDone r done starts edges) (added : AreAdded r done edges edges') where
+module _ (r : Regions) (done : ℕ) (starts : List ℕ) (edges edges' : List Edge) (all : AreDone r done starts edges) (added : AreEdgesAdded r done edges edges') where
   ends : List ℕ
   ends = starts ++ length edges' ∷ []
 
@@ -508,9 +508,9 @@ module _ (r : Regions) (regions : IsRegions r.shape r.count r) (region : ℕ) (h
   pub written_rising : (written rest : List ℕ) (n count : ℕ) → n ≡ cell_count r.shape → count ≡ r.count → written ≡ set_at n count home.set → IsRising r home.set (take r.count (written ++ rest))
   written_rising written rest n count cells tiles is = subst (IsRising r home.set) (sym (written_is written rest n count cells tiles is)) (home_rising r regions.regions region home at)
 
-  pub written_added : (written rest : List ℕ) (n count : ℕ) → n ≡ cell_count r.shape → count ≡ r.count → written ≡ set_at n count home.set → (old new : List Edge) → HasFound r (take r.count (written ++ rest)) region (r.count * 4) old new → AreAdded r region old new
+  pub written_added : (written rest : List ℕ) (n count : ℕ) → n ≡ cell_count r.shape → count ≡ r.count → written ≡ set_at n count home.set → (old new : List Edge) → HasFound r (take r.count (written ++ rest)) region (r.count * 4) old new → AreEdgesAdded r region old new
   written_added written rest n count cells tiles is old new found =
-      added_are r regions.regions region home at old new found.0 found.1 (subst (λ xs. AreFound r xs region (r.count * 4) found.0) (written_is written rest n count cells tiles is) found.2)
+      added_are r regions.regions region home at old new found.0 found.1 (subst (λ xs. AreEdgesFound r xs region (r.count * 4) found.0) (written_is written rest n count cells tiles is) found.2)
 
 -- there are few edges
 pub few_done : (r : Regions) (done : ℕ) (starts : List ℕ) (edges : List Edge) → IsRegions r.shape r.count r → ways (cell_count r.shape) (suc r.count) ≤ MAX_SIZE → done ≤ length r.homes.items → AreDone r done starts edges → length edges < 2 ^ 32
@@ -522,7 +522,7 @@ few_done r done starts edges regions small low all =
     omega arith
 
 -- the edges of one region more, by what is pushed
-pub next_done : (r : Regions) (done : ℕ) (starts starts' : List ℕ) (edges edges' : List Edge) → starts' ≡ starts ++ length edges ∷ [] → AreDone r done (starts ++ length edges ∷ []) edges → AreAdded r done edges edges' → AreDone r (done + 1) (starts' ++ length edges' ∷ []) edges'
+pub next_done : (r : Regions) (done : ℕ) (starts starts' : List ℕ) (edges edges' : List Edge) → starts' ≡ starts ++ length edges ∷ [] → AreDone r done (starts ++ length edges ∷ []) edges → AreEdgesAdded r done edges edges' → AreDone r (done + 1) (starts' ++ length edges' ∷ []) edges'
 next_done r done starts starts' edges edges' is all added = subst (λ (xs : List ℕ). AreDone r (done + 1) (xs ++ length edges' ∷ []) edges') (sym is) (one_done r done (starts ++ length edges ∷ []) edges edges' all added)
 
 -- the edges of all regions, by what is pushed at last

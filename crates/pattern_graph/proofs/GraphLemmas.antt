@@ -8,14 +8,14 @@ use Rattle.std.proofs.lemmas.Option.{slice_get-get_or}
 use Rattle.std.proofs.Math.Nat.{mul_comm, mul-le-mul_right}
 use Rattle.std.proofs.lemmas.List.{length-map, length-take-le, get_or-take, get_or-replicate, take-append-le, take_all}
 use Rattle.board.specs.declared.moves.Move.{Move}
-use Rattle.board.specs.Grids.{Grid, cell_count, IsShape}
+use Rattle.board.specs.Shapes.{ShapeModel, cell_count, IsShape}
 use Rattle.board.specs.Neighbours.{opposite, LiesTowards}
-use Rattle.board.specs.CostRules.{CostRule, weight_of}
+use Rattle.board.specs.Weights.{WeightsModel, weight_of}
 use Rattle.board.proofs.MoveLemmas.{cell_below}
-use Rattle.board.specs.Positions.{Position, IsBoard, cell_of}
+use Rattle.board.specs.Boards.{BoardModel, IsBoard, cell_of}
 use Rattle.pattern_index.specs.Laws.{factorial}
-use Rattle.pattern_index.specs.Selections.{Selection, IsGroup, IsSelection, size_of, abstraction_of}
-use Rattle.pattern_index.specs.Views.{Sight, IsView, view_of, Abstraction, ViewMoves, ViewLeads, weight_on}
+use Rattle.pattern_index.specs.Groups.{GroupModel, AreGroupTiles, IsGroup, size_of, abstraction_of}
+use Rattle.pattern_index.specs.Views.{ViewModel, IsView, view_of, Abstraction, ViewMoves, ViewLeads, weight_on}
 use Rattle.pattern_index.proofs.RankLemmas.{differ_in, Differ, Other, pairs_from_differ}
 use Rattle.pattern_index.proofs.ViewMoveLemmas.{board_view, moved_view, moved_back}
 use Rattle.pattern_index.specs.Ranks.{ways}
@@ -31,7 +31,7 @@ use Rattle.pattern_graph.specs.declared.edges.Edges.{Edges}
 use Rattle.pattern_graph.proofs.OrderLemmas.{below_within, in_map, replaced_listing, in_or_out, order_below, one_placement, moved_is, tile_is, placed}
 use Rattle.pattern_graph.proofs.SetLemmas.{same_place, set_is}
 use Rattle.pattern_graph.specs.declared.graph.Graph.{Graph}
-use Rattle.pattern_graph.specs.Frames.{GroupSize, size_in, IsFrame, Fits}
+use Rattle.pattern_graph.specs.Frames.{FrameModel, size_in, IsFrame, FitsGroup}
 use Rattle.pattern_graph.specs.declared.frame.Frame.TheInside.{Inside}
 
 -- ---- nodes by their regions and orders
@@ -66,13 +66,13 @@ replaced_other from to [] other = refl
 replaced_other from to (x ∷ xs) other = λ i. cond-false (eqb x from) to x (ne_eqb x from (λ e. other.0 (sym e))) i ∷ replaced_other from to xs other.1 i
 
 -- no tile stands there, so none is moved
-weight_other : (rule : CostRule) (tiles cells : List ℕ) (x : ℕ) → Other x cells → weight_on rule tiles cells x ≡ 0
+weight_other : (rule : WeightsModel) (tiles cells : List ℕ) (x : ℕ) → Other x cells → weight_on rule tiles cells x ≡ 0
 weight_other rule [] cells x other = refl
 weight_other rule (tile ∷ tiles) [] x other = refl
 weight_other rule (tile ∷ tiles) (y ∷ cells) x other = cond-false (eqb y x) _ _ (ne_eqb y x (λ e. other.0 (sym e))) ∙ weight_other rule tiles cells x other.1
 
 -- the weight of the tile whose cell it is
-weight_there : (rule : CostRule) (tiles cells : List ℕ) (place : ℕ) → length cells ≡ length tiles → Differ cells → place < length cells → weight_on rule tiles cells (get_or cells place 0) ≡ weight_of rule (get_or tiles place 0)
+weight_there : (rule : WeightsModel) (tiles cells : List ℕ) (place : ℕ) → length cells ≡ length tiles → Differ cells → place < length cells → weight_on rule tiles cells (get_or cells place 0) ≡ weight_of rule (get_or tiles place 0)
 weight_there rule tiles [] place long differ low = absurd (omega arith)
 weight_there rule [] (x ∷ cells) place long differ low = absurd (omega arith)
 weight_there rule (tile ∷ tiles) (x ∷ cells) zero long differ low = cond-true (eqb x x) _ _ (eq-eqb x x refl)
@@ -82,27 +82,27 @@ weight_there rule (tile ∷ tiles) (x ∷ cells) (suc place) long differ low =
     cond-false (eqb x (get_or cells place 0)) _ _ (ne_eqb x (get_or cells place 0) ne) ∙ weight_there rule tiles cells place (omega arith) differ.1 low'
 
 -- plans one after the other
-pub leads_then : (a : Abstraction) (v : Sight) (plan more : List Move) (w x : Sight) (j k : ℕ) → ViewLeads a v plan w j → ViewLeads a w more x k → ViewLeads a v (plan ++ more) x (j + k)
+pub leads_then : (a : Abstraction) (v : ViewModel) (plan more : List Move) (w x : ViewModel) (j k : ℕ) → ViewLeads a v plan w j → ViewLeads a w more x k → ViewLeads a v (plan ++ more) x (j + k)
 leads_then a v [] more w x j k first second =
     let cost : k ≡ j + k = omega (arith, first.1) in
-    subst (λ (n : ℕ). ViewLeads a v more x n) cost (subst (λ (y : Sight). ViewLeads a y more x k) first.0 second)
+    subst (λ (n : ℕ). ViewLeads a v more x n) cost (subst (λ (y : ViewModel). ViewLeads a y more x k) first.0 second)
 leads_then a v (m ∷ plan) more w x j k first second =
     let rest = leads_then a first.0 plan more w x first.2 k first.4 second in
     (first.0, first.1, first.2 + k, first.3, rest, omega (arith, first.5))
 
-module _ (r : Regions) (es : Edges) (rule : CostRule) (tiles weights : List ℕ) (counted : length tiles ≡ r.count) where
+module _ (r : Regions) (es : Edges) (rule : WeightsModel) (tiles weights : List ℕ) (counted : length tiles ≡ r.count) where
   -- the puzzle as the group sees it
   abbrev pub space : Abstraction
   space = record { grid = r.shape; rule = rule; tiles = tiles }
 
   -- the cells of a view are placed, and its blank is free
-  pub view_placed : (v : Sight) → IsView r.shape tiles v → IsPlaced r.shape r.count v.cells
+  pub view_placed : (v : ViewModel) → IsView r.shape tiles v → IsPlaced r.shape r.count v.cells
   view_placed v view = record {
     listing = record { in_range = All-tail (λ cell. cell < cell_count r.shape) v.blank v.cells view.in_range; different = λ i j d lt j_in. view.different (suc i) (suc j) d (omega arith) (omega arith) };
     one_each = view.one_each ∙ counted;
   }
 
-  pub view_free : (v : Sight) → IsView r.shape tiles v → IsFree r.shape v.cells v.blank
+  pub view_free : (v : ViewModel) → IsView r.shape tiles v → IsFree r.shape v.cells v.blank
   view_free v view = record {
     inside = view.in_range 0 0 (omega arith);
     free = λ has. view.different 0 (suc has.0) v.blank (omega arith) (omega (arith, has.1)) (sym has.2);
@@ -117,14 +117,14 @@ module _ (r : Regions) (es : Edges) (rule : CostRule) (tiles weights : List ℕ)
   }
 
   -- the order of a view's cells is below the number of orders
-  pub view_order : (v : Sight) → IsView r.shape tiles v → order_of v.cells < factorial r.count
+  pub view_order : (v : ViewModel) → IsView r.shape tiles v → order_of v.cells < factorial r.count
   view_order v view = subst (λ (k : ℕ). order_of v.cells < factorial k) (view_placed v view).one_each (order_below v.cells)
 
   -- the region and the order are read off a view's node
-  pub node_region : (v : Sight) → IsView r.shape tiles v → node_in r v / factorial r.count ≡ region_in r v.cells v.blank
+  pub node_region : (v : ViewModel) → IsView r.shape tiles v → node_in r v / factorial r.count ≡ region_in r v.cells v.blank
   node_region v view = div-mul-add (region_in r v.cells v.blank) (factorial r.count) (order_of v.cells) (view_order v view)
 
-  pub node_order : (v : Sight) → IsView r.shape tiles v → node_in r v % factorial r.count ≡ order_of v.cells
+  pub node_order : (v : ViewModel) → IsView r.shape tiles v → node_in r v % factorial r.count ≡ order_of v.cells
   node_order v view = mod-mul-add (region_in r v.cells v.blank) (factorial r.count) (order_of v.cells) (view_order v view)
 
   -- the blank's way past none of the tiles is a view plan that costs nothing
@@ -138,12 +138,12 @@ module _ (r : Regions) (es : Edges) (rule : CostRule) (tiles weights : List ℕ)
       (record { blank = next; cells = cells }, 0, 0, step, wander_leads cells next moves to wanders.3, omega arith)
 
   module _ (regions : HasRegions r) where
-    pub graph_inside : (v : Sight) → IsView r.shape tiles v → node_in r v < node_count r
+    pub graph_inside : (v : ViewModel) → IsView r.shape tiles v → node_in r v < node_count r
     graph_inside v view =
         let m = mul-add-lt (region_in r v.cells v.blank) (factorial r.count) (order_of v.cells) (length r.homes.items) (regions.inside v.cells v.blank (view_placed v view) (view_free v view)) (view_order v view) in
         omega arith
 
-    pub graph_seen : (node : ℕ) → node < node_count r → (v : Sight) × IsView r.shape tiles v × (node_in r v ≡ node)
+    pub graph_seen : (node : ℕ) → node < node_count r → (v : ViewModel) × IsView r.shape tiles v × (node_in r v ≡ node)
     graph_seen node low =
         let n = cell_count r.shape in
         let f = factorial r.count in
@@ -165,7 +165,7 @@ module _ (r : Regions) (es : Edges) (rule : CostRule) (tiles weights : List ℕ)
         let there : region_in r xs home.cell ≡ region = ap (λ (p : ℕ). slice_index r.numbers.items (p * n + home.cell)) place ∙ is.2 in
         (record { blank = home.cell; cells = xs }, view_from xs home.cell xs_placed xs_free, (λ i. there i * f + made.4 i) ∙ div-add-mod' node f)
 
-    pub graph_joined : (v w : Sight) → IsView r.shape tiles v → IsView r.shape tiles w → node_in r v ≡ node_in r w → (plan : List Move) × ViewLeads space v plan w 0
+    pub graph_joined : (v w : ViewModel) → IsView r.shape tiles v → IsView r.shape tiles w → node_in r v ≡ node_in r w → (plan : List Move) × ViewLeads space v plan w 0
     graph_joined v w view other same =
         let parts = same_from_place (region_in r v.cells v.blank) (order_of v.cells) (region_in r w.cells w.blank) (order_of w.cells) (factorial r.count) (view_order v view) (view_order w other) same in
         let vp = view_placed v view in
@@ -176,7 +176,7 @@ module _ (r : Regions) (es : Edges) (rule : CostRule) (tiles weights : List ℕ)
         (joint.1.0, subst (λ (xs : List ℕ). ViewLeads space v joint.1.0 (record { blank = w.blank; cells = xs }) 0) cells leads)
 
     -- each view of a node comes to where one of them is moved
-    comes_back : (w x v : Sight) (m : Move) (c : ℕ) → IsView r.shape tiles w → IsView r.shape tiles x → node_in r w ≡ node_in r x → ViewMoves space x m v c → (plan : List Move) × ViewLeads space w plan v c
+    comes_back : (w x v : ViewModel) (m : Move) (c : ℕ) → IsView r.shape tiles w → IsView r.shape tiles x → node_in r w ≡ node_in r x → ViewMoves space x m v c → (plan : List Move) × ViewLeads space w plan v c
     comes_back w x v m c w_view x_view same moves =
         let joint = graph_joined w x w_view x_view same in
         let last : ViewLeads space x (m ∷ []) v c = (v, c, 0, moves, (refl, refl), omega arith) in
@@ -186,7 +186,7 @@ module _ (r : Regions) (es : Edges) (rule : CostRule) (tiles weights : List ℕ)
 
     module _ (edges : AreEdges r es) (costs : AreWeightsOf rule tiles weights) where
       -- what the edge of a tile says of the view after the tile has moved
-      edge_past : (v : Sight) (from : ℕ) (e : Edge) → IsView r.shape tiles v → Contains v.cells from → IsEdgeOf r v.cells from v.blank e
+      edge_past : (v : ViewModel) (from : ℕ) (e : Edge) → IsView r.shape tiles v → Contains v.cells from → IsEdgeOf r v.cells from v.blank e
           → (node_in r (record { blank = from; cells = replaced from v.blank v.cells }) ≡ e.region * factorial r.count + moved_order r.count (node_in r v % factorial r.count) e.from e.to)
           × (weight_on rule tiles v.cells from ≡ slice_index weights (tile_of r.count (node_in r v % factorial r.count) e.from))
       edge_past v from e view has is =
@@ -207,7 +207,7 @@ module _ (r : Regions) (es : Edges) (rule : CostRule) (tiles weights : List ℕ)
             ap (weight_on rule tiles v.cells) (sym at.1) ∙ there ∙ sym (costs place low) ∙ ap (slice_index weights) same_place',
           )
 
-      pub graph_complete : (v : Sight) (m : Move) (v' : Sight) (c : ℕ) → IsView r.shape tiles v → ViewMoves space v m v' c
+      pub graph_complete : (v : ViewModel) (m : Move) (v' : ViewModel) (c : ℕ) → IsView r.shape tiles v → ViewMoves space v m v' c
           → ((node_in r v' ≡ node_in r v) × (c ≡ 0)) ⊎ ((e : Edge) × IsPast r es weights (node_in r v) e (node_in r v') c)
       graph_complete v m v' c view moves =
           let f = factorial r.count in
@@ -240,7 +240,7 @@ module _ (r : Regions) (es : Edges) (rule : CostRule) (tiles weights : List ℕ)
 
       -- where an edge begins, the blank of some view is a neighbour of its tile
       edge_view : (node : ℕ) (e : Edge) → node < node_count r → HasEdge es (node / factorial r.count) e
-          → (v : Sight) × (m : Move) × (from : ℕ) × IsView r.shape tiles v × (node_in r v ≡ node) × IsCrossing r.shape v.cells m from v.blank × IsEdgeOf r v.cells from v.blank e
+          → (v : ViewModel) × (m : Move) × (from : ℕ) × IsView r.shape tiles v × (node_in r v ≡ node) × IsCrossing r.shape v.cells m from v.blank × IsEdgeOf r v.cells from v.blank e
       edge_view node e low has =
           let f = factorial r.count in
           let region_low : node / f < length r.homes.items = div_below node f (length r.homes.items) (factorial_some r.count) low in
@@ -249,15 +249,15 @@ module _ (r : Regions) (es : Edges) (rule : CostRule) (tiles weights : List ℕ)
           let is_placed = view_placed first.0 first.1 in
           let here : region_in r cells first.0.blank ≡ node / f = sym (node_region first.0 first.1) ∙ ap (λ (k : ℕ). k / f) first.2 in
           let edge = edges.sound (node / f) e cells first.0.blank region_low has is_placed (view_free first.0 first.1) here in
-          let v : Sight = record { blank = edge.2; cells = cells } in
+          let v : ViewModel = record { blank = edge.2; cells = cells } in
           let same : node_in r v ≡ node = ap (λ (region : ℕ). region * f + order_of cells) (edge.4 ∙ sym here) ∙ first.2 in
           (v, edge.0, edge.1, view_from cells edge.2 is_placed edge.3.blank, same, edge.3, edge.5)
 
       -- and the view after the tile has moved is one of the other node, from which a move leads back
-      edge_back : (v : Sight) (m : Move) (from node : ℕ) (e : Edge) (other c : ℕ) → IsView r.shape tiles v → node_in r v ≡ node → IsCrossing r.shape v.cells m from v.blank → IsEdgeOf r v.cells from v.blank e → IsPast r es weights node e other c
-          → (x : Sight) × IsView r.shape tiles x × (node_in r x ≡ other) × ViewMoves space x (opposite m) v c
+      edge_back : (v : ViewModel) (m : Move) (from node : ℕ) (e : Edge) (other c : ℕ) → IsView r.shape tiles v → node_in r v ≡ node → IsCrossing r.shape v.cells m from v.blank → IsEdgeOf r v.cells from v.blank e → IsPast r es weights node e other c
+          → (x : ViewModel) × IsView r.shape tiles x × (node_in r x ≡ other) × ViewMoves space x (opposite m) v c
       edge_back v m from node e other c view same cross edge past =
-          let x : Sight = record { blank = from; cells = replaced from v.blank v.cells } in
+          let x : ViewModel = record { blank = from; cells = replaced from v.blank v.cells } in
           let gone = edge_past v from e view cross.tile edge in
           let order : node_in r v % factorial r.count ≡ node % factorial r.count = ap (λ (k : ℕ). k % factorial r.count) same in
           let reached : node_in r x ≡ other = gone.0 ∙ ap (λ (k : ℕ). e.region * factorial r.count + moved_order r.count k e.from e.to) order ∙ sym past.other in
@@ -266,7 +266,7 @@ module _ (r : Regions) (es : Edges) (rule : CostRule) (tiles weights : List ℕ)
           (x, moved_view space v m x c view moves, reached, moved_back space v m x c view moves)
 
       pub graph_sound : (node : ℕ) (e : Edge) (other c : ℕ) → node < node_count r → IsPast r es weights node e other c
-          → (other < node_count r) × ((w : Sight) → IsView r.shape tiles w → node_in r w ≡ other → (v : Sight) × IsView r.shape tiles v × (node_in r v ≡ node) × ((plan : List Move) × ViewLeads space w plan v c))
+          → (other < node_count r) × ((w : ViewModel) → IsView r.shape tiles w → node_in r w ≡ other → (v : ViewModel) × IsView r.shape tiles v × (node_in r v ≡ node) × ((plan : List Move) × ViewLeads space w plan v c))
       graph_sound node e other c low past =
           let from = edge_view node e low past.edge in
           let back = edge_back from.0 from.1 from.2 node e other c from.3 from.4 from.5 from.6 past in (
@@ -284,14 +284,14 @@ module _ (r : Regions) (es : Edges) (rule : CostRule) (tiles weights : List ℕ)
       }
 
 -- the graph of a group's regions and edges is that of its views
-pub graph_of : (g : Selection) (rule : CostRule) (r : Regions) (es : Edges) (weights : List ℕ) → IsSelection g → IsRegions g.grid (length g.tiles) r → AreEdges r es → AreWeightsOf rule g.tiles weights → IsGraph (abstraction_of g rule) r es weights
+pub graph_of : (g : GroupModel) (rule : WeightsModel) (r : Regions) (es : Edges) (weights : List ℕ) → IsGroup g → IsRegions g.grid (length g.tiles) r → AreEdges r es → AreWeightsOf rule g.tiles weights → IsGraph (abstraction_of g rule) r es weights
 graph_of g rule r es weights selection is edges costs =
-    subst (λ (grid : Grid). IsGraph (record { grid = grid; rule = rule; tiles = g.tiles }) r es weights) is.shape (graph_is r es rule g.tiles weights (sym is.tiles) is.regions edges costs)
+    subst (λ (grid : ShapeModel). IsGraph (record { grid = grid; rule = rule; tiles = g.tiles }) r es weights) is.shape (graph_is r es rule g.tiles weights (sym is.tiles) is.regions edges costs)
 
 -- ---- Why the regions, edges and orders of a group make a graph that a search can go over.
 
 -- the positions of an edge's tile are below the count of tiles
-edge_positions : (grid : Grid) (count from to : ℕ) (cells : List ℕ) (r : Regions) (m : Move) (e : Edge) → IsPlaced grid count cells → IsCrossing grid cells m from to → IsEdgeOf r cells from to e → (e.from < count) × (e.to < count)
+edge_positions : (grid : ShapeModel) (count from to : ℕ) (cells : List ℕ) (r : Regions) (m : Move) (e : Edge) → IsPlaced grid count cells → IsCrossing grid cells m from to → IsEdgeOf r cells from to e → (e.from < count) × (e.to < count)
 edge_positions grid count from to cells r m e placed crossing is =
     let n : ℕ = cell_count grid in
     let moved = replaced_listing n from to cells placed.listing crossing.blank.inside crossing.blank.free in
@@ -301,14 +301,14 @@ edge_positions grid count from to cells r m e placed crossing is =
     (omega (arith, is.before, placed.one_each), omega (arith, is.after, placed.one_each, moved.1))
 
 -- where an edge of a node leads
-edge_leads : (s : Selection) (rule : CostRule) (g : Graph) → IsGraphOf s rule g → AreEdges g.regions g.edges → (node : ℕ) (e : Edge) → node < node_count g.regions → HasEdge g.edges (node / factorial g.regions.count) e
+edge_leads : (s : GroupModel) (rule : WeightsModel) (g : Graph) → IsGraphOf s rule g → AreEdges g.regions g.edges → (node : ℕ) (e : Edge) → node < node_count g.regions → HasEdge g.edges (node / factorial g.regions.count) e
     → (e.from < g.regions.count) × (e.to < g.regions.count) × (target g (node % factorial g.regions.count) e < node_count g.regions)
 edge_leads s rule g is edges node e less has =
     let r : Regions = g.regions in
     let counted : length s.tiles ≡ r.count = sym is.regions.tiles in
     let seen = is.graph.seen node less in
-    let v : Sight = seen.0 in
-    let view : IsView r.shape s.tiles v = subst (λ (grid : Grid). IsView grid s.tiles v) (sym is.regions.shape) seen.1 in
+    let v : ViewModel = seen.0 in
+    let view : IsView r.shape s.tiles v = subst (λ (grid : ShapeModel). IsView grid s.tiles v) (sym is.regions.shape) seen.1 in
     let at : region_in r v.cells v.blank ≡ node / factorial r.count = sym (node_region r g.edges rule s.tiles g.costs counted v view) ∙ ap (λ k. k / factorial r.count) seen.2 in
     let placed = view_placed r g.edges rule s.tiles g.costs counted v view in
     let free = view_free r g.edges rule s.tiles g.costs counted v view in
@@ -319,11 +319,11 @@ edge_leads s rule g is edges node e less has =
     (ends.0, ends.1, other.0)
 
 -- the graph of a group
-pub graph_made : (s : Selection) (rule : CostRule) (g : Graph) → IsSelection s → IsRegions s.grid (length s.tiles) g.regions → AreEdges g.regions g.edges → AreWeightsOf rule s.tiles g.costs → IsGraphOf s rule g
+pub graph_made : (s : GroupModel) (rule : WeightsModel) (g : Graph) → IsGroup s → IsRegions s.grid (length s.tiles) g.regions → AreEdges g.regions g.edges → AreWeightsOf rule s.tiles g.costs → IsGraphOf s rule g
 graph_made s rule g selection regions edges costs = record { regions = regions; graph = graph_of s rule g.regions g.edges g.costs selection regions edges costs }
 
 -- and what a search reads of it
-pub sound_made : (s : Selection) (rule : CostRule) (g : Graph) → IsSelection s → IsRegions s.grid (length s.tiles) g.regions → AreEdges g.regions g.edges → IsOrders (length s.tiles) g.orders → AreWeightsOf rule s.tiles g.costs → length g.costs ≡ 9 → IsSoundGraph g
+pub sound_made : (s : GroupModel) (rule : WeightsModel) (g : Graph) → IsGroup s → IsRegions s.grid (length s.tiles) g.regions → AreEdges g.regions g.edges → IsOrders (length s.tiles) g.orders → AreWeightsOf rule s.tiles g.costs → length g.costs ≡ 9 → IsSoundGraph g
 sound_made s rule g selection regions edges orders costs long = record {
   orders = subst (λ (n : ℕ). IsOrders n g.orders) (sym regions.tiles) orders;
   costs = long;
@@ -339,15 +339,15 @@ sound_made s rule g selection regions edges orders costs long = record {
 
 -- ---- what a group sees of a board
 
-pub board_seen : (s : Selection) (b : Position) → IsBoard b → IsSelection s → b.grid ≡ s.grid → IsView s.grid s.tiles (view_of s.tiles b)
+pub board_seen : (s : GroupModel) (b : BoardModel) → IsBoard b → IsGroup s → b.grid ≡ s.grid → IsView s.grid s.tiles (view_of s.tiles b)
 board_seen s b board selection same =
-    subst (λ (grid : Grid). IsView grid s.tiles (view_of s.tiles b)) same (board_view s.tiles b board (subst (λ (grid : Grid). IsGroup grid s.tiles) (sym same) selection.group))
+    subst (λ (grid : ShapeModel). IsView grid s.tiles (view_of s.tiles b)) same (board_view s.tiles b board (subst (λ (grid : ShapeModel). AreGroupTiles grid s.tiles) (sym same) selection.group))
 
 -- the cells that are picked out of the cells of all numbers
-pub cells_picked : (s : Selection) (b : Position) (numbers ts us picked rest : List ℕ) → IsSelection s → b.grid ≡ s.grid → ts ≡ s.tiles → us ≡ s.tiles → picked ≡ map (slice_index numbers) us → ((number : ℕ) → number < cell_count b.grid → slice_index numbers number ≡ cell_of b number)
+pub cells_picked : (s : GroupModel) (b : BoardModel) (numbers ts us picked rest : List ℕ) → IsGroup s → b.grid ≡ s.grid → ts ≡ s.tiles → us ≡ s.tiles → picked ≡ map (slice_index numbers) us → ((number : ℕ) → number < cell_count b.grid → slice_index numbers number ≡ cell_of b number)
     → take (length ts) (picked ++ rest) ≡ map (cell_of b) s.tiles
 cells_picked s b numbers ts us picked rest selection same ts_are us_are is known =
-    let low : All (λ tile. tile < cell_count b.grid) s.tiles = subst (λ (grid : Grid). All (λ tile. tile < cell_count grid) s.tiles) (sym same) (λ k d k_in. (selection.group.tiles k d k_in).1) in
+    let low : All (λ tile. tile < cell_count b.grid) s.tiles = subst (λ (grid : ShapeModel). All (λ tile. tile < cell_count grid) s.tiles) (sym same) (λ k d k_in. (selection.group.tiles k d k_in).1) in
     let seen : picked ≡ map (cell_of b) s.tiles = is ∙ ap (map (slice_index numbers)) us_are ∙ looked_up b numbers s.tiles known (recursion_from_All (λ tile. tile < cell_count b.grid) s.tiles low) in
     let long : length ts ≡ length picked = ap length ts_are ∙ sym (ap length seen ∙ length-map s.tiles (cell_of b)) in
     take-append-le (length ts) picked rest (omega arith) ∙ take_all (length ts) picked (omega arith) ∙ seen
@@ -357,12 +357,12 @@ pub record IsSeen (r : Regions) (cells : List ℕ) (blank : ℕ) : Type 0 where
   pub free : IsFree r.shape cells blank
   pub below_all : region_in r cells blank * factorial r.count + order_of cells < node_count r
 
-pub view_seen : (s : Selection) (g : Graph) (v : Sight) → IsRegions s.grid (length s.tiles) g.regions → IsView s.grid s.tiles v → IsSeen g.regions v.cells v.blank
+pub view_seen : (s : GroupModel) (g : Graph) (v : ViewModel) → IsRegions s.grid (length s.tiles) g.regions → IsView s.grid s.tiles v → IsSeen g.regions v.cells v.blank
 view_seen s g v regions is_view =
     let r : Regions = g.regions in
-    let rule : CostRule = record { grid = s.grid; weights = [] } in
+    let rule : WeightsModel = record { grid = s.grid; weights = [] } in
     let counted : length s.tiles ≡ r.count = sym regions.tiles in
-    let view : IsView r.shape s.tiles v = subst (λ (grid : Grid). IsView grid s.tiles v) (sym regions.shape) is_view in
+    let view : IsView r.shape s.tiles v = subst (λ (grid : ShapeModel). IsView grid s.tiles v) (sym regions.shape) is_view in
     let placed = view_placed r g.edges rule s.tiles g.costs counted v view in
     let free = view_free r g.edges rule s.tiles g.costs counted v view in
     let order = view_order r g.edges rule s.tiles g.costs counted v view in
@@ -372,11 +372,11 @@ view_seen s g v regions is_view =
       below_all = omega (arith, mul-add-lt (region_in r v.cells v.blank) (factorial r.count) (order_of v.cells) (length r.homes.items) (regions.regions.inside v.cells v.blank placed free) order, mul_comm (factorial r.count) (length r.homes.items));
     }
 
-pub free_at : (grid : Grid) (xs ys : List ℕ) (x y : ℕ) → xs ≡ ys → x ≡ y → IsFree grid ys y → IsFree grid xs x
+pub free_at : (grid : ShapeModel) (xs ys : List ℕ) (x y : ℕ) → xs ≡ ys → x ≡ y → IsFree grid ys y → IsFree grid xs x
 free_at grid xs ys x y same is free = subst (λ (z : ℕ). IsFree grid xs z) (sym is) (subst (λ (zs : List ℕ). IsFree grid zs y) (sym same) free)
 
 -- a node by its region and its order
-pub node_by : (r : Regions) (v : Sight) (cells : List ℕ) (blank region size order : ℕ) → cells ≡ v.cells → blank ≡ v.blank → region ≡ region_in r cells blank → size ≡ factorial r.count → order ≡ order_of cells → region * size + order ≡ node_in r v
+pub node_by : (r : Regions) (v : ViewModel) (cells : List ℕ) (blank region size order : ℕ) → cells ≡ v.cells → blank ≡ v.blank → region ≡ region_in r cells blank → size ≡ factorial r.count → order ≡ order_of cells → region * size + order ≡ node_in r v
 node_by r v cells blank region size order same is region_is size_is order_is =
     (λ i. region_is i * size_is i + order_is i) ∙ (λ i. region_in r (same i) (is i) * factorial r.count + order_of (same i))
 
@@ -391,7 +391,7 @@ same_each xs count weight long same place less =
 
 -- what is read of regions
 pub record Parts : Type 0 where
-  pub shape : Grid
+  pub shape : ShapeModel
   pub count : ℕ
   pub numbers : List ℕ
   pub homes : List Home
@@ -491,13 +491,13 @@ frame_copied f f' same starts edges orders h = record {
 }
 
 -- a frame that fits a group has the group's regions
-pub fitting_regions : (f : Inside) (size : GroupSize) (s : Selection) → size_in f ≡ size → IsFrame f → Fits size s → IsRegions s.grid (length s.tiles) f.regions
+pub fitting_regions : (f : Inside) (size : FrameModel) (s : GroupModel) → size_in f ≡ size → IsFrame f → FitsGroup size s → IsRegions s.grid (length s.tiles) f.regions
 fitting_regions f size s is h fits =
-    let its_own : Fits (size_in f) s = subst (λ (z : GroupSize). Fits z s) (sym is) fits in
-    subst (λ (z : GroupSize). IsRegions z.grid z.count f.regions) (λ i. record { grid = its_own.grid i; count = its_own.count i }) h.regions
+    let its_own : FitsGroup (size_in f) s = subst (λ (z : FrameModel). FitsGroup z s) (sym is) fits in
+    subst (λ (z : FrameModel). IsRegions z.grid z.count f.regions) (λ i. record { grid = its_own.grid i; count = its_own.count i }) h.regions
 
 -- and the orders of its tiles
-pub fitting_orders : (f : Inside) (size : GroupSize) (s : Selection) → size_in f ≡ size → IsFrame f → Fits size s → IsOrders (length s.tiles) f.orders
+pub fitting_orders : (f : Inside) (size : FrameModel) (s : GroupModel) → size_in f ≡ size → IsFrame f → FitsGroup size s → IsOrders (length s.tiles) f.orders
 fitting_orders f size s is h fits =
-    let its_own : Fits (size_in f) s = subst (λ (z : GroupSize). Fits z s) (sym is) fits in
+    let its_own : FitsGroup (size_in f) s = subst (λ (z : FrameModel). FitsGroup z s) (sym is) fits in
     subst (λ (n : ℕ). IsOrders n f.orders) its_own.count h.orders

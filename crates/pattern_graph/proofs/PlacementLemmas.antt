@@ -7,11 +7,11 @@ use Rattle.std.proofs.lemmas.Nat.{div-add-mod', div_below, mod_below, mul-add-lt
 use Rattle.std.proofs.lemmas.List.{take_at, length-set, length-take-le}
 use Rattle.std.proofs.lemmas.List.Elements.{All-cons, recursion_from_All}
 use Rattle.std.proofs.lemmas.Option.{slice_get_read}
-use Rattle.board.specs.Grids.{Grid, cell_count}
+use Rattle.board.specs.Shapes.{ShapeModel, cell_count}
 use Rattle.pattern_index.specs.Laws.{factorial}
-use Rattle.pattern_index.specs.Selections.{Selection, IsSelection}
+use Rattle.pattern_index.specs.Groups.{GroupModel, IsGroup}
 use Rattle.pattern_index.specs.Sparse.{digits_in, sparse_in, sparse_of, sparse_size_of}
-use Rattle.pattern_index.specs.Views.{Sight, IsView}
+use Rattle.pattern_index.specs.Views.{ViewModel, IsView}
 use Rattle.pattern_index.proofs.GroupLemmas.{groups_small}
 use Rattle.pattern_index.proofs.PlaceLemmas.{place_listing}
 use Rattle.pattern_index.proofs.RankLemmas.{Below, Differ, Other, differ_from_pairs, listing_from, pairs_from_differ}
@@ -29,18 +29,18 @@ use Rattle.pattern_graph.proofs.SetLemmas.{place_below, same_place, set_is, sets
 
 -- ---- sets in rising order
 
-pub set_list : (grid : Grid) (count : ℕ) (cells : List ℕ) → IsSetList grid count cells → IsPlaced grid count cells
+pub set_list : (grid : ShapeModel) (count : ℕ) (cells : List ℕ) → IsSetList grid count cells → IsPlaced grid count cells
 set_list grid count cells is =
     let are = set_is (cell_count grid) count is.0 is.1 in
     subst (IsPlaced grid count) (sym is.2) (record { listing = are.0; one_each = are.1 })
 
 -- the place of the set is the one that it was made of
-pub set_list_place : (grid : Grid) (count : ℕ) (cells : List ℕ) (is : IsSetList grid count cells) → set_place cells ≡ is.0
+pub set_list_place : (grid : ShapeModel) (count : ℕ) (cells : List ℕ) (is : IsSetList grid count cells) → set_place cells ≡ is.0
 set_list_place grid count cells is = ap set_place is.2 ∙ (set_is (cell_count grid) count is.0 is.1).2
 
 -- ---- sets and orders of placements
 
-module _ (grid : Grid) (count : ℕ) where
+module _ (grid : ShapeModel) (count : ℕ) where
   abbrev n : ℕ
   n = cell_count grid
 
@@ -109,7 +109,7 @@ module _ (grid : Grid) (count : ℕ) where
     ordered_back xs one same = ordered_only (order_of xs) (map (slice_index cells) (positions_at count (order_of xs))) xs (ordered (order_of xs) (order_low xs one)) (record { placed = one; same = same; order_is = refl })
 
 -- the sparse place of a placement is that of a view
-pub placed_view : (g : Selection) (xs : List ℕ) → IsPlaced g.grid (length g.tiles) xs → ¬ HasNoView g (sparse_of (cell_count g.grid) xs)
+pub placed_view : (g : GroupModel) (xs : List ℕ) → IsPlaced g.grid (length g.tiles) xs → ¬ HasNoView g (sparse_of (cell_count g.grid) xs)
 placed_view g xs one none = none (subst (λ ys. AllPairs (λ x y. x ≢ y) ys) (sym (sparse_digits g.grid (length g.tiles) xs one)) one.listing.different)
 
 -- numbers differ or don't
@@ -143,7 +143,7 @@ digits_whole n (suc count) number some low =
     ap (λ k. number % n + n * k) (digits_whole n count (number / n) some rest) ∙ mod-add-div number n
 
 -- a sparse place whose digits differ is that of a view
-pub seen_place : (g : Selection) (sparse : ℕ) → IsSelection g → sparse < sparse_size_of g → AllPairs (λ x y. x ≢ y) (digits_in (cell_count g.grid) (length g.tiles) sparse) → (v : Sight) × IsView g.grid g.tiles v × (sparse_in g.grid v ≡ sparse)
+pub seen_place : (g : GroupModel) (sparse : ℕ) → IsGroup g → sparse < sparse_size_of g → AllPairs (λ x y. x ≢ y) (digits_in (cell_count g.grid) (length g.tiles) sparse) → (v : ViewModel) × IsView g.grid g.tiles v × (sparse_in g.grid v ≡ sparse)
 seen_place g sparse group low different = (
   record { blank = free.0; cells = xs },
   record {
@@ -176,12 +176,12 @@ seen_place g sparse group low different = (
     free = some_free size xs differ (let room = (groups_small g group).1 in let all = below-all size xs below_size in omega (arith, room, all, long))
 
 -- no view has a sparse place with two digits that are the same
-pub unseen_place : (g : Selection) (sparse : ℕ) → HasNoView g sparse → (v : Sight) → IsView g.grid g.tiles v → sparse_in g.grid v ≢ sparse
+pub unseen_place : (g : GroupModel) (sparse : ℕ) → HasNoView g sparse → (v : ViewModel) → IsView g.grid g.tiles v → sparse_in g.grid v ≢ sparse
 unseen_place g sparse none v view there =
     none (subst (λ ys. AllPairs (λ x y. x ≢ y) ys) (sym (view_digits g.grid g.tiles v sparse view there)) (place_listing g.grid g.tiles v view).different)
 
 -- each number is that of a placement
-pub numbered : (grid : Grid) (count k : ℕ) → k < placement_count (cell_count grid) count → (xs : List ℕ) × IsPlaced grid count xs × (placement_in count xs ≡ k)
+pub numbered : (grid : ShapeModel) (count k : ℕ) → k < placement_count (cell_count grid) count → (xs : List ℕ) × IsPlaced grid count xs × (placement_in count xs ≡ k)
 numbered grid count k low = (
   xs,
   are.placed,
@@ -218,26 +218,26 @@ numbered grid count k low = (
 -- ---- what is written for one set, order by order
 
 -- the placements on the set in the orders before one are written
-pub record AreWrittenTo {A : Type 0} (g : Selection) (cells : List ℕ) (row old : List A) (order : ℕ) (new : List A) : Type 0 where
+pub record AreWrittenTo {A : Type 0} (g : GroupModel) (cells : List ℕ) (row old : List A) (order : ℕ) (new : List A) : Type 0 where
   pub size : length new ≡ length old
   pub written : (xs : List ℕ) → IsPlaced g.grid (length g.tiles) xs → AreSame xs cells → order_of xs < order → slice_get new (sparse_of (cell_count g.grid) xs) ≡ slice_get row (order_of xs)
   pub others : (sparse : ℕ) → ((xs : List ℕ) → IsPlaced g.grid (length g.tiles) xs → AreSame xs cells → sparse_of (cell_count g.grid) xs ≢ sparse) → slice_get new sparse ≡ slice_get old sparse
 
-pub orders_none : {A : Type 0} (g : Selection) (cells : List ℕ) (row old : List A) → AreWrittenTo g cells row old 0 old
+pub orders_none : {A : Type 0} (g : GroupModel) (cells : List ℕ) (row old : List A) → AreWrittenTo g cells row old 0 old
 orders_none g cells row old = record {
   size = refl;
   written = λ xs one same low. absurd (omega (arith, low));
   others = λ sparse free. refl;
 }
 
-pub orders_all : {A : Type 0} (g : Selection) (cells : List ℕ) (row old new : List A) (order : ℕ) → factorial (length g.tiles) ≤ order → AreWrittenTo g cells row old order new → AreWritten g cells row old new
+pub orders_all : {A : Type 0} (g : GroupModel) (cells : List ℕ) (row old new : List A) (order : ℕ) → factorial (length g.tiles) ≤ order → AreWrittenTo g cells row old order new → AreWritten g cells row old new
 orders_all g cells row old new order end done = record {
   size = done.size;
   written = λ xs one same. done.written xs one same (let low = order_low g.grid (length g.tiles) xs one in omega (arith, low, end));
   others = done.others;
 }
 
-pub orders_more : {A : Type 0} (g : Selection) (cells : List ℕ) (row old new : List A) (order slot : ℕ) (value : A) (ys : List ℕ) → IsOrdered g.grid (length g.tiles) cells order ys → slot ≡ sparse_of (cell_count g.grid) ys → slot < length new → order < length row → value ≡ get_or row order value → AreWrittenTo g cells row old order new → AreWrittenTo g cells row old (order + 1) (set new slot value)
+pub orders_more : {A : Type 0} (g : GroupModel) (cells : List ℕ) (row old new : List A) (order slot : ℕ) (value : A) (ys : List ℕ) → IsOrdered g.grid (length g.tiles) cells order ys → slot ≡ sparse_of (cell_count g.grid) ys → slot < length new → order < length row → value ≡ get_or row order value → AreWrittenTo g cells row old order new → AreWrittenTo g cells row old (order + 1) (set new slot value)
 orders_more g cells row old new order slot value ys here slot_is within inside is done = record {
   size = length-set new slot value ∙ done.size;
   written = λ xs one same low. ⊎_elim
@@ -256,7 +256,7 @@ orders_more g cells row old new order slot value ys here slot_is within inside i
 }
 
 -- what is read of one order
-module _ (g : Selection) (cells positions : List ℕ) (order end : ℕ) (group : IsSelection g) (is : IsSetList g.grid (length g.tiles) cells) (all : ArePositions (length g.tiles) positions) (ended : end ≡ factorial (length g.tiles)) (before : order < end) where
+module _ (g : GroupModel) (cells positions : List ℕ) (order end : ℕ) (group : IsGroup g) (is : IsSetList g.grid (length g.tiles) cells) (all : ArePositions (length g.tiles) positions) (ended : end ≡ factorial (length g.tiles)) (before : order < end) where
   abbrev count : ℕ
   count = length cells
 
@@ -307,7 +307,7 @@ module _ (g : Selection) (cells positions : List ℕ) (order end : ℕ) (group :
       let are = ordered g.grid (length g.tiles) cells is order (omega (arith, before, ended)) in
       subst (IsOrdered g.grid (length g.tiles) cells order) (sym (take_at ys rest count (ap length made ∙ are.placed.one_each ∙ sym count_is) ∙ made)) are
 
-module _ {A : Type 0} (g : Selection) (places old : List A) (cells ys : List ℕ) (order base : ℕ) (group : IsSelection g) (size : length places ≡ sparse_size_of g) (is : IsOrdered g.grid (length g.tiles) cells order ys) (based : base ≡ cell_count g.grid) where
+module _ {A : Type 0} (g : GroupModel) (places old : List A) (cells ys : List ℕ) (order base : ℕ) (group : IsGroup g) (size : length places ≡ sparse_size_of g) (is : IsOrdered g.grid (length g.tiles) cells order ys) (based : base ≡ cell_count g.grid) where
   -- their cells are digits
   pub ordered_below : All (λ cell. cell < base) ys
   ordered_below = subst (λ k. All (λ cell. cell < k) ys) (sym based) is.placed.listing.in_range
@@ -321,19 +321,19 @@ module _ {A : Type 0} (g : Selection) (places old : List A) (cells ys : List ℕ
 -- ---- what is written for one set after another
 
 -- the placements on the sets before one are written
-pub record AreSetsWritten {A : Type 0} (g : Selection) (least old : List A) (limit : ℕ) (new : List A) : Type 0 where
+pub record AreSetsWritten {A : Type 0} (g : GroupModel) (least old : List A) (limit : ℕ) (new : List A) : Type 0 where
   pub size : length new ≡ length old
   pub written : (xs : List ℕ) → IsPlaced g.grid (length g.tiles) xs → set_place xs < limit → slice_get new (sparse_of (cell_count g.grid) xs) ≡ slice_get least (placement_in (length g.tiles) xs)
   pub others : (sparse : ℕ) → HasNoView g sparse → slice_get new sparse ≡ slice_get old sparse
 
-pub sets_none : {A : Type 0} (g : Selection) (least old : List A) → AreSetsWritten g least old 0 old
+pub sets_none : {A : Type 0} (g : GroupModel) (least old : List A) → AreSetsWritten g least old 0 old
 sets_none g least old = record {
   size = refl;
   written = λ xs one low. absurd (omega (arith, low));
   others = λ sparse none. refl;
 }
 
-pub sets_all : {A : Type 0} (g : Selection) (least old new : List A) (limit : ℕ) → choose (cell_count g.grid) (length g.tiles) ≤ limit → AreSetsWritten g least old limit new → AreAllWritten g least old new
+pub sets_all : {A : Type 0} (g : GroupModel) (least old new : List A) (limit : ℕ) → choose (cell_count g.grid) (length g.tiles) ≤ limit → AreSetsWritten g least old limit new → AreAllWritten g least old new
 sets_all g least old new limit end done = record {
   size = done.size;
   written = λ xs one. done.written xs one (let low = set_low g.grid (length g.tiles) xs one in omega (arith, low, end));
@@ -362,7 +362,7 @@ row_read least from count order low = ap (λ k. slice_get (take k (drop from lea
     width : (a b : ℕ) → a + b - a ≡ b
     width a b = omega arith
 
-pub sets_more : {A : Type 0} (g : Selection) (least row old between new : List A) (limit : ℕ) (cells : List ℕ) → cells ≡ set_at (cell_count g.grid) (length g.tiles) limit → limit < choose (cell_count g.grid) (length g.tiles) → ((order : ℕ) → order < factorial (length g.tiles) → slice_get row order ≡ slice_get least (limit * factorial (length g.tiles) + order)) → AreWritten g cells row between new → AreSetsWritten g least old limit between → AreSetsWritten g least old (limit + 1) new
+pub sets_more : {A : Type 0} (g : GroupModel) (least row old between new : List A) (limit : ℕ) (cells : List ℕ) → cells ≡ set_at (cell_count g.grid) (length g.tiles) limit → limit < choose (cell_count g.grid) (length g.tiles) → ((order : ℕ) → order < factorial (length g.tiles) → slice_get row order ≡ slice_get least (limit * factorial (length g.tiles) + order)) → AreWritten g cells row between new → AreSetsWritten g least old limit between → AreSetsWritten g least old (limit + 1) new
 sets_more g least row old between new limit cells is low rows more done = record {
   size = more.size ∙ done.size;
   written = λ xs one below. ⊎_elim
@@ -390,12 +390,12 @@ sets_more g least row old between new limit cells is low rows more done = record
     place = set_list_place g.grid (length g.tiles) cells listed
 
 -- the front of an array over which a set is written is that set
-pub set_front : (g : Selection) (cells count limit : ℕ) (zeros written rest : List ℕ) → cells ≡ cell_count g.grid → count ≡ length g.tiles → length g.tiles ≤ 9 → length zeros ≡ 9 → limit < choose (cell_count g.grid) (length g.tiles) → written ≡ set_at cells (length (take count zeros)) limit → take count (written ++ rest) ≡ set_at (cell_count g.grid) (length g.tiles) limit
+pub set_front : (g : GroupModel) (cells count limit : ℕ) (zeros written rest : List ℕ) → cells ≡ cell_count g.grid → count ≡ length g.tiles → length g.tiles ≤ 9 → length zeros ≡ 9 → limit < choose (cell_count g.grid) (length g.tiles) → written ≡ set_at cells (length (take count zeros)) limit → take count (written ++ rest) ≡ set_at (cell_count g.grid) (length g.tiles) limit
 set_front g cells count limit zeros written rest counted many few nine low is =
     let size : length (take count zeros) ≡ length g.tiles = length-take-le count zeros (omega (arith, many, few, nine)) ∙ many in
     let made : written ≡ set_at (cell_count g.grid) (length g.tiles) limit = is ∙ (λ i. set_at (counted i) (size i) limit) in
     take_at written rest count (ap length made ∙ (set_is (cell_count g.grid) (length g.tiles) limit low).1 ∙ sym many) ∙ made
 
 -- the row of a set has the values of its placements
-pub set_row : {A : Type 0} (g : Selection) (least : List A) (limit orders : ℕ) → orders ≡ factorial (length g.tiles) → (order : ℕ) → order < factorial (length g.tiles) → slice_get (take (limit * orders + orders - limit * orders) (drop (limit * orders) least)) order ≡ slice_get least (limit * factorial (length g.tiles) + order)
+pub set_row : {A : Type 0} (g : GroupModel) (least : List A) (limit orders : ℕ) → orders ≡ factorial (length g.tiles) → (order : ℕ) → order < factorial (length g.tiles) → slice_get (take (limit * orders + orders - limit * orders) (drop (limit * orders) least)) order ≡ slice_get least (limit * factorial (length g.tiles) + order)
 set_row g least limit orders is order low = row_read least (limit * orders) orders order (omega (arith, low, is)) ∙ ap (λ k. slice_get least (limit * k + order)) is

@@ -9,7 +9,7 @@ use Rattle.std.proofs.lemmas.Option.{slice_get_within, slice_get-get_or, get_or_
 use Rattle.std.proofs.Math.Seq.{get_or-append_seam}
 use Rattle.std.proofs.Math.Nat.{mul-le-mul_right, mul_assoc, mul_comm, mul-le-mul_left}
 use Rattle.board.specs.declared.moves.Move.{Move}
-use Rattle.board.specs.Grids.{Grid, IsShape, cell_count}
+use Rattle.board.specs.Shapes.{ShapeModel, IsShape, cell_count}
 use Rattle.board.specs.Neighbours.{LiesTowards, opposite}
 use Rattle.board.proofs.MoveLemmas.{cell_below}
 use Rattle.pattern_index.proofs.ViewMoveLemmas.{lies_back}
@@ -19,7 +19,7 @@ use Rattle.pattern_index.proofs.RankLemmas.{Differ, differ_in, below_in}
 use Rattle.pattern_index.specs.Laws.{factorial}
 use Rattle.pattern_graph.specs.Sets.{AreSame, IsChoices, set_at, choose, set_place}
 use Rattle.pattern_graph.specs.Regions.{IsFree, Wanders, IsPlaced, HasRegions, IsRegions, region_in}
-use Rattle.pattern_graph.specs.Numberings.{IsLabel, AreLabels, AreSettled, IsLowering, IsSettled, AreBegun, AreOfSameSets, IsHome, IsLabelled, IsNumberedRow, HasRow, AreNumbered, AreNumberedTo}
+use Rattle.pattern_graph.specs.Numberings.{IsLabel, AreLabels, AreSettled, IsLowering, IsSettled, AreBegun, AreOfSameSets, IsHome, IsLabelled, IsNumberedRow, IsSetNumbered, AreNumbered, AreNumberedTo}
 use Rattle.pattern_graph.specs.Orders.{below}
 use Rattle.pattern_graph.specs.declared.regions.Home.{Home}
 use Rattle.pattern_graph.proofs.OrderLemmas.{below-zero, below-all, below_there, below_absent, in_or_out}
@@ -28,12 +28,12 @@ use Rattle.pattern_graph.proofs.SetLemmas.{set_is, place_below, one_set, sets_di
 
 -- ---- ways of the blank
 
-pub wanders_on : (grid : Grid) (cells : List ℕ) (from : ℕ) (moves : List Move) (to : ℕ) (more : List Move) (end : ℕ) → Wanders grid cells from moves to → Wanders grid cells to more end → Wanders grid cells from (moves ++ more) end
+pub wanders_on : (grid : ShapeModel) (cells : List ℕ) (from : ℕ) (moves : List Move) (to : ℕ) (more : List Move) (end : ℕ) → Wanders grid cells from moves to → Wanders grid cells to more end → Wanders grid cells from (moves ++ more) end
 wanders_on grid cells from [] to more end first second = subst (λ (x : ℕ). Wanders grid cells x more end) first second
 wanders_on grid cells from (m ∷ moves) to more end first second = (first.0, first.1, first.2, wanders_on grid cells first.0 moves to more end first.3 second)
 
 -- the way back, by the opposite moves
-pub wanders_back : (grid : Grid) (cells : List ℕ) (from : ℕ) (moves : List Move) (to : ℕ) → IsFree grid cells from → Wanders grid cells from moves to → (back : List Move) × Wanders grid cells to back from
+pub wanders_back : (grid : ShapeModel) (cells : List ℕ) (from : ℕ) (moves : List Move) (to : ℕ) → IsFree grid cells from → Wanders grid cells from moves to → (back : List Move) × Wanders grid cells to back from
 wanders_back grid cells from [] to free way = ([], sym way)
 wanders_back grid cells from (m ∷ moves) to free way =
     let inside = cell_below grid m from way.0 way.1 in
@@ -42,24 +42,24 @@ wanders_back grid cells from (m ∷ moves) to free way =
     (rest.0 ++ (opposite m ∷ []), wanders_on grid cells to rest.0 way.0 (opposite m ∷ []) from rest.1 last)
 
 -- the ways hang on which cells are taken alone
-pub wanders_same : (grid : Grid) (xs ys : List ℕ) (from : ℕ) (moves : List Move) (to : ℕ) → AreSame xs ys → Wanders grid xs from moves to → Wanders grid ys from moves to
+pub wanders_same : (grid : ShapeModel) (xs ys : List ℕ) (from : ℕ) (moves : List Move) (to : ℕ) → AreSame xs ys → Wanders grid xs from moves to → Wanders grid ys from moves to
 wanders_same grid xs ys from [] to same way = way
 wanders_same grid xs ys from (m ∷ moves) to same way = (way.0, way.1, (λ on. way.2 ((same way.0).1 on)), wanders_same grid xs ys way.0 moves to same way.3)
 
-pub free_same : (grid : Grid) (xs ys : List ℕ) (cell : ℕ) → AreSame xs ys → IsFree grid xs cell → IsFree grid ys cell
+pub free_same : (grid : ShapeModel) (xs ys : List ℕ) (cell : ℕ) → AreSame xs ys → IsFree grid xs cell → IsFree grid ys cell
 free_same grid xs ys cell same free = record { inside = free.inside; free = λ on. free.free ((same cell).1 on) }
 
 -- ---- one label is lowered
 
 -- a free neighbour's label is one of the cell's too
-label_at : (grid : Grid) (cells labels : List ℕ) (cell next : ℕ) → AreLabels grid cells labels → IsFree grid cells cell → (m : Move) → LiesTowards grid m cell next → ¬ Contains cells next → slice_index labels next < slice_index labels cell → IsLabel grid cells cell (slice_index labels next)
+label_at : (grid : ShapeModel) (cells labels : List ℕ) (cell next : ℕ) → AreLabels grid cells labels → IsFree grid cells cell → (m : Move) → LiesTowards grid m cell next → ¬ Contains cells next → slice_index labels next < slice_index labels cell → IsLabel grid cells cell (slice_index labels next)
 label_at grid cells labels cell next are free m towards empty less =
     let there = are.each next (record { inside = cell_below grid m cell next towards; free = empty }) in
     let here = are.each cell free in
     let le = here.low in
     record { low = omega arith; free = there.free; reached = (m ∷ there.reached.0, (next, towards, empty, there.reached.1)) }
 
-pub lowered_labels : (grid : Grid) (cells labels : List ℕ) (cell next : ℕ) (m : Move) → cell < 25 → AreLabels grid cells labels → IsFree grid cells cell → LiesTowards grid m cell next → ¬ Contains cells next → slice_index labels next < slice_index labels cell → AreLabels grid cells (set labels cell (slice_index labels next))
+pub lowered_labels : (grid : ShapeModel) (cells labels : List ℕ) (cell next : ℕ) (m : Move) → cell < 25 → AreLabels grid cells labels → IsFree grid cells cell → LiesTowards grid m cell next → ¬ Contains cells next → slice_index labels next < slice_index labels cell → AreLabels grid cells (set labels cell (slice_index labels next))
 lowered_labels grid cells labels cell next m low are free towards empty less =
     let size = are.size in
     let within : cell < length labels = omega arith in
@@ -111,7 +111,7 @@ lowering_more before middle after true true first second = record {
   same = λ e. absurd (false≢true (sym e));
 }
 
-pub settled_more : (grid : Grid) (cells before after : List ℕ) (cell : ℕ) (a b : Bool) → IsLowering before after b → (a ≡ false → (k : ℕ) → k < cell → IsSettled grid cells before k) → (b ≡ false → IsSettled grid cells after cell) → (a || b) ≡ false → (k : ℕ) → k < cell + 1 → IsSettled grid cells after k
+pub settled_more : (grid : ShapeModel) (cells before after : List ℕ) (cell : ℕ) (a b : Bool) → IsLowering before after b → (a ≡ false → (k : ℕ) → k < cell → IsSettled grid cells before k) → (b ≡ false → IsSettled grid cells after cell) → (a || b) ≡ false → (k : ℕ) → k < cell + 1 → IsSettled grid cells after k
 settled_more grid cells before after cell a b lowering settled here none =
     let parts = none_of a b none in
     below_more (λ (k : ℕ). IsSettled grid cells after k) cell
@@ -119,7 +119,7 @@ settled_more grid cells before after cell a b lowering settled here none =
     (here parts.1)
 
 -- at first each cell is its own label
-pub first_labels : (grid : Grid) (cells labels : List ℕ) → length labels ≡ 25 → ((k : ℕ) → k < cell_count grid → get_or labels k 0 ≡ k) → AreLabels grid cells labels
+pub first_labels : (grid : ShapeModel) (cells labels : List ℕ) → length labels ≡ 25 → ((k : ℕ) → k < cell_count grid → get_or labels k 0 ≡ k) → AreLabels grid cells labels
 first_labels grid cells labels size own = record {
   size = size;
   each = λ cell free.
@@ -128,7 +128,7 @@ first_labels grid cells labels size own = record {
 }
 
 -- where no cell's label is above that of a free neighbour, the two are one
-pub all_settled : (grid : Grid) (cells labels : List ℕ) → AreLabels grid cells labels → ((k : ℕ) → k < cell_count grid → IsSettled grid cells labels k) → AreSettled grid cells labels
+pub all_settled : (grid : ShapeModel) (cells labels : List ℕ) → AreLabels grid cells labels → ((k : ℕ) → k < cell_count grid → IsSettled grid cells labels k) → AreSettled grid cells labels
 all_settled grid cells labels are settled = record {
   are = are;
   near = λ m from to free there towards.
@@ -190,7 +190,7 @@ lower_place n other set cell lt within = let m : (other + 1) * n ≤ set * n = m
 
 -- ---- labels are constant where the blank wanders
 
-pub one_label : (grid : Grid) (cells labels : List ℕ) (from : ℕ) (moves : List Move) (to : ℕ) → AreSettled grid cells labels → IsFree grid cells from → Wanders grid cells from moves to → slice_index labels to ≡ slice_index labels from
+pub one_label : (grid : ShapeModel) (cells labels : List ℕ) (from : ℕ) (moves : List Move) (to : ℕ) → AreSettled grid cells labels → IsFree grid cells from → Wanders grid cells from moves to → slice_index labels to ≡ slice_index labels from
 one_label grid cells labels from [] to settled free way = ap (slice_index labels) way
 one_label grid cells labels from (m ∷ moves) to settled free way =
     let next : IsFree grid cells way.0 = record { inside = cell_below grid m from way.0 way.1; free = way.2 } in
@@ -198,13 +198,13 @@ one_label grid cells labels from (m ∷ moves) to settled free way =
 
 -- ---- one more cell is numbered
 
-pub home_stays : (grid : Grid) (count : ℕ) (numbers : List ℕ) (x region : ℕ) (home : Home) → IsHome grid count numbers region home → IsHome grid count (numbers ++ x ∷ []) region home
+pub home_stays : (grid : ShapeModel) (count : ℕ) (numbers : List ℕ) (x region : ℕ) (home : Home) → IsHome grid count numbers region home → IsHome grid count (numbers ++ x ∷ []) region home
 home_stays grid count numbers x region home is =
     let m = length-append numbers (x ∷ []) in
     let place = is.place in
     record { place = omega arith; free = is.free; number = kept_number numbers x (home.set * cell_count grid + home.cell) is.place ∙ is.number }
 
-module _ (grid : Grid) (cells labels numbers : List ℕ) (homes : List Home) (set cell : ℕ) (inside : cell < cell_count grid) (numbered : AreNumberedTo grid (length cells) cells labels numbers homes set cell) where
+module _ (grid : ShapeModel) (cells labels numbers : List ℕ) (homes : List Home) (set cell : ℕ) (inside : cell < cell_count grid) (numbered : AreNumberedTo grid (length cells) cells labels numbers homes set cell) where
   -- with a number whose home is the label, if the cell is free
   step : (x : ℕ) (next : List Home) → ((region : ℕ) (home : Home) → slice_get homes region ≡ Some home → slice_get next region ≡ Some home)
       → ((region : ℕ) (home : Home) → slice_get next region ≡ Some home → IsHome grid (length cells) (numbers ++ x ∷ []) region home)
@@ -287,14 +287,14 @@ when_pushed (Err fault) P old new x is p = tt
 
 -- ---- a whole set
 
-pub numbered_none : (grid : Grid) (cells labels numbers : List ℕ) (homes : List Home) (set : ℕ) → AreNumbered grid (length cells) numbers homes set → AreNumberedTo grid (length cells) cells labels numbers homes set 0
+pub numbered_none : (grid : ShapeModel) (cells labels numbers : List ℕ) (homes : List Home) (set : ℕ) → AreNumbered grid (length cells) numbers homes set → AreNumberedTo grid (length cells) cells labels numbers homes set 0
 numbered_none grid cells labels numbers homes set numbered =
     let size = numbered.size in
     let few = numbered.few in
     let none = below-zero cells in
     record { size = omega arith; rows = numbered.rows; row = λ k lt free. absurd (omega arith); are_homes = numbered.are_homes; few = omega arith }
 
-pub numbered_all : (grid : Grid) (cells labels numbers : List ℕ) (homes : List Home) (set cell : ℕ) → cell_count grid ≤ cell → cell ≤ cell_count grid → IsListing (cell_count grid) cells → cells ≡ set_at (cell_count grid) (length cells) set → AreSettled grid cells labels → AreNumberedTo grid (length cells) cells labels numbers homes set cell → AreNumbered grid (length cells) numbers homes (set + 1)
+pub numbered_all : (grid : ShapeModel) (cells labels numbers : List ℕ) (homes : List Home) (set cell : ℕ) → cell_count grid ≤ cell → cell ≤ cell_count grid → IsListing (cell_count grid) cells → cells ≡ set_at (cell_count grid) (length cells) set → AreSettled grid cells labels → AreNumberedTo grid (length cells) cells labels numbers homes set cell → AreNumbered grid (length cells) numbers homes (set + 1)
 numbered_all grid cells labels numbers homes set cell high low listing are settled numbered =
     let n = cell_count grid in
     let last : cell ≡ n = omega arith in
@@ -303,7 +303,7 @@ numbered_all grid cells labels numbers homes set cell high low listing are settl
     let all : below cell cells ≡ length cells = ap (λ (k : ℕ). below k cells) last ∙ below-all n cells (below_in n cells listing) in
     record {
       size = omega arith;
-      rows = below_more (λ (other : ℕ). HasRow grid (length cells) numbers homes other) set numbered.rows (record {
+      rows = below_more (λ (other : ℕ). IsSetNumbered grid (length cells) numbers homes other) set numbered.rows (record {
         labels = labels;
         settled = subst (λ (xs : List ℕ). AreSettled grid xs labels) are settled;
         row = subst (λ (xs : List ℕ). IsNumberedRow grid xs labels numbers homes set n) are (subst (λ (k : ℕ). IsNumberedRow grid cells labels numbers homes set k) last numbered.row);
@@ -348,7 +348,7 @@ few_places n count set limit low small =
     let e = all_ways n count in
     omega arith
 
-first_numbered : (grid : Grid) (count : ℕ) → AreNumbered grid count [] [] 0
+first_numbered : (grid : ShapeModel) (count : ℕ) → AreNumbered grid count [] [] 0
 first_numbered grid count = record {
   size = omega arith;
   rows = λ other lt. absurd (omega arith);
@@ -356,7 +356,7 @@ first_numbered grid count = record {
   few = omega arith;
 }
 
-pub numbered_first : (grid : Grid) (count : ℕ) (numbers : List ℕ) (homes : List Home) → numbers ≡ [] → homes ≡ [] → AreNumbered grid count numbers homes 0
+pub numbered_first : (grid : ShapeModel) (count : ℕ) (numbers : List ℕ) (homes : List Home) → numbers ≡ [] → homes ≡ [] → AreNumbered grid count numbers homes 0
 numbered_first grid count numbers homes none no_home =
     subst (λ (ns : List ℕ). AreNumbered grid count ns homes 0) (sym none) (subst (λ (hs : List Home). AreNumbered grid count [] hs 0) (sym no_home) (first_numbered grid count))
 
@@ -390,7 +390,7 @@ module _ (r : Regions) (numbered : AreNumbered r.shape r.count r.numbers.items r
   back : (xs ys : List ℕ) → AreSame xs ys → AreSame ys xs
   back xs ys same cell = ((same cell).1, (same cell).0)
 
-  row_of : (cells : List ℕ) → IsPlaced r.shape r.count cells → HasRow r.shape r.count r.numbers.items r.homes.items (set_place cells)
+  row_of : (cells : List ℕ) → IsPlaced r.shape r.count cells → IsSetNumbered r.shape r.count r.numbers.items r.homes.items (set_place cells)
   row_of cells placed = numbered.rows (set_place cells) (place_in cells placed)
 
   home_of : (cells : List ℕ) (cell : ℕ) (placed : IsPlaced r.shape r.count cells) → IsFree r.shape cells cell → slice_get r.homes.items (region_in r cells cell) ≡ Some (record { set = set_place cells; cell = slice_index (row_of cells placed).labels cell })
@@ -491,13 +491,13 @@ module _ (r : Regions) (set : ℕ) (cells labels : List ℕ) (begun : AreBegun r
             (numbered_all r.shape cells labels r'.numbers.items r'.homes.items set cell high all row.listing row.cells_are settled numbered);
       }
 
-module _ (grid : Grid) (count set : ℕ) (r : Regions) (begun : AreBegun grid count set r) where
+module _ (grid : ShapeModel) (count set : ℕ) (r : Regions) (begun : AreBegun grid count set r) where
   -- the grid and the count are the regions' own
   pub begun_own : AreBegun r.shape r.count set r
-  begun_own = subst (λ (g : Grid). AreBegun g r.count set r) (sym begun.shape) (subst (λ (k : ℕ). AreBegun grid k set r) (sym begun.tiles) begun)
+  begun_own = subst (λ (g : ShapeModel). AreBegun g r.count set r) (sym begun.shape) (subst (λ (k : ℕ). AreBegun grid k set r) (sym begun.tiles) begun)
 
   pub begun_next : (next : ℕ) (r' : Regions) → AreBegun r.shape r.count next r' → AreBegun grid count next r'
-  begun_next next r' is = subst (λ (g : Grid). AreBegun g count next r') begun.shape (subst (λ (k : ℕ). AreBegun r.shape k next r') begun.tiles is)
+  begun_next next r' is = subst (λ (g : ShapeModel). AreBegun g count next r') begun.shape (subst (λ (k : ℕ). AreBegun r.shape k next r') begun.tiles is)
 
   -- where the sets of all places are numbered
   pub begun_regions : IsShape grid → 0 < count → set ≡ choose (cell_count grid) count → IsRegions grid count r
@@ -510,7 +510,7 @@ module _ (grid : Grid) (count set : ℕ) (r : Regions) (begun : AreBegun grid co
     short = begun.short;
     choices = begun.choices;
     regions = has_regions r
-        (subst (λ (g : Grid). AreNumbered g r.count r.numbers.items r.homes.items (choose (cell_count g) r.count)) (sym begun.shape)
+        (subst (λ (g : ShapeModel). AreNumbered g r.count r.numbers.items r.homes.items (choose (cell_count g) r.count)) (sym begun.shape)
         (subst (λ (k : ℕ). AreNumbered grid k r.numbers.items r.homes.items (choose (cell_count grid) k)) (sym begun.tiles)
         (subst (λ (s : ℕ). AreNumbered grid count r.numbers.items r.homes.items s) all begun.numbered)));
   }

@@ -9,19 +9,19 @@ use Rattle.std.proofs.lemmas.List.Elements.{recursion_from_All, Contains-get_or,
 use Rattle.std.proofs.lemmas.Nat.{mul-add-lt, same_from_place, mul-le}
 use Rattle.std.specs.List.{range_with_len}
 use Rattle.std.proofs.lemmas.List.FromFn.{get_or-map-range_with_len}
-use Rattle.board.specs.Grids.{cell_count, Grid, IsShape}
+use Rattle.board.specs.Shapes.{cell_count, ShapeModel, IsShape}
 use Rattle.pattern_index.specs.Ranks.{ways, IsListing, rank_after, rank_of, list_at}
 use Rattle.pattern_index.proofs.RankLemmas.{Differ, Below, Other, below_in, differ_in, listing_from, rank_differs, smaller-cons, rank_below, length-list_at, list_at_below, list_at_differ, rank_of-list_at}
 use Rattle.pattern_index.proofs.PlaceLemmas.{ways-last, listing_tail, place_listing, place_below as view_place_below}
 use Rattle.pattern_index.proofs.GroupLemmas.{cells_high, groups_small}
 use Rattle.pattern_index.specs.Laws.{factorial}
-use Rattle.pattern_index.specs.Views.{Sight, IsView}
-use Rattle.pattern_index.specs.Selections.{Selection, size_of, folded_size_of, rank_in, place_in, IsSelection}
+use Rattle.pattern_index.specs.Views.{ViewModel, IsView}
+use Rattle.pattern_index.specs.Groups.{GroupModel, size_of, folded_size_of, rank_in, place_in, IsGroup}
 use Rattle.pattern_index.specs.declared.group.TheConstants.{MAX_SIZE}
 use Rattle.pattern_index.proofs.SightLemmas.{sight_below, listing as view_listing, listing}
 use Rattle.pattern_graph.specs.Orders.{below, order_of}
 use Rattle.pattern_graph.specs.Sets.{AreMarksOf, choose, set_place, set_at, AreSame}
-use Rattle.pattern_graph.specs.Placements.{IsRow, AreLarger, node_value, placement_count, placement_in}
+use Rattle.pattern_graph.specs.Placements.{IsRowAppended, AreLarger, node_value, placement_count, placement_in}
 use Rattle.pattern_graph.proofs.OrderLemmas.{below-all, below_low, below_out, below_step, split_last, order_below, below_there, in_or_out, order_with, below-le-length, below-zero}
 use Rattle.pattern_graph.specs.Regions.{IsRegions, IsPlaced, IsFree, region_in}
 use Rattle.pattern_graph.specs.declared.regions.Regions.{Regions}
@@ -119,7 +119,7 @@ free_less z c xs differ lt free =
 
 -- ---- a row
 
-pub row_none : (xs : List ℕ) (f : ℕ → ℕ) (old : List ℕ) → IsRow xs f old 0 old
+pub row_none : (xs : List ℕ) (f : ℕ → ℕ) (old : List ℕ) → IsRowAppended xs f old 0 old
 row_none xs f old = record {
   size = omega arith;
   kept = λ i i_in. refl;
@@ -127,7 +127,7 @@ row_none xs f old = record {
 }
 
 -- a cell of the list has no value
-pub row_pass : (xs : List ℕ) (f : ℕ → ℕ) (old new : List ℕ) (c : ℕ) → Differ xs → Contains xs c → IsRow xs f old c new → IsRow xs f old (c + 1) new
+pub row_pass : (xs : List ℕ) (f : ℕ → ℕ) (old new : List ℕ) (c : ℕ) → Differ xs → Contains xs c → IsRowAppended xs f old c new → IsRowAppended xs f old (c + 1) new
 row_pass xs f old new c differ has row = record {
   size = let s = row.size in let b = below_next_in c xs differ has in let m = below_low c xs differ in let e = ap (λ k. below k xs) (plus_one c) in omega (arith, s, b, m, e);
   kept = row.kept;
@@ -140,7 +140,7 @@ row_pass xs f old new c differ has row = record {
     plus_one k = omega arith
 
 -- a free cell's value is pushed
-pub row_push : (xs : List ℕ) (f : ℕ → ℕ) (old new : List ℕ) (c y : ℕ) → Differ xs → ¬ Contains xs c → y ≡ f c → IsRow xs f old c new → IsRow xs f old (c + 1) (new ++ y ∷ [])
+pub row_push : (xs : List ℕ) (f : ℕ → ℕ) (old new : List ℕ) (c y : ℕ) → Differ xs → ¬ Contains xs c → y ≡ f c → IsRowAppended xs f old c new → IsRowAppended xs f old (c + 1) (new ++ y ∷ [])
 row_push xs f old new c y differ free is row = record {
   size = let s = row.size in let b = below_next_out c xs free in let m = below_low c xs differ in let e = ap (λ k. below k xs) (plus_one c) in let l = length-append new (y ∷ []) in omega (arith, s, b, m, e, l);
   kept = λ i i_in. get_or_append_left new (y ∷ []) 0 i (let s = row.size in omega (arith, s, i_in)) ∙ row.kept i i_in;
@@ -226,7 +226,7 @@ pub rows_more :
     → length xs ≡ k
     → rank_of n xs ≡ row
     → AreRows n k f row old
-    → IsRow xs (λ z. f (xs ++ z ∷ [])) old n new
+    → IsRowAppended xs (λ z. f (xs ++ z ∷ [])) old n new
     → AreRows n k f (row + 1) new
 rows_more n k f row xs old new room is long rank rows more = record {
   size = size_is;
@@ -415,7 +415,7 @@ module _ (r : Regions) (n set : ℕ) (cells written : List ℕ) (regions : IsReg
 
 -- the values of the free cells before this one are there, and the order is that of the other cells with this one
 pub record IsFilling (r : Regions) (nodes : List ℕ) (blank : ℕ) (others : List ℕ) (unit : ℕ) (old : List ℕ) (cell order : ℕ) (new : List ℕ) : Type 0 where
-  pub row : IsRow (blank ∷ others) (λ z. node_value r nodes (blank ∷ (others ++ z ∷ []))) old cell new
+  pub row : IsRowAppended (blank ∷ others) (λ z. node_value r nodes (blank ∷ (others ++ z ∷ []))) old cell new
   pub so_far : order ≡ order_of others + below cell others * unit
 
 pub filling_none : (r : Regions) (nodes : List ℕ) (blank : ℕ) (others : List ℕ) (unit : ℕ) (old : List ℕ) (order : ℕ) → order ≡ order_of others → IsFilling r nodes blank others unit old 0 order old
@@ -576,13 +576,13 @@ order_fits others cell order unit few unit_is is =
 
 -- ---- all rows of a group
 
-pub own_regions : (grid : Grid) (count : ℕ) (r : Regions) → IsRegions grid count r → IsRegions r.shape r.count r
+pub own_regions : (grid : ShapeModel) (count : ℕ) (r : Regions) → IsRegions grid count r → IsRegions r.shape r.count r
 own_regions grid count r regions = record {
   shape = refl;
   sides = subst IsShape (sym regions.shape) regions.sides;
   tiles = refl;
   some = subst (λ k. 0 < k) (sym regions.tiles) regions.some;
-  room = (λ (h : suc r.count ≤ cell_count grid). subst (λ (g : Grid). suc r.count ≤ cell_count g) (sym regions.shape) h) (subst (λ k. suc k ≤ cell_count grid) (sym regions.tiles) regions.room);
+  room = (λ (h : suc r.count ≤ cell_count grid). subst (λ (g : ShapeModel). suc r.count ≤ cell_count g) (sym regions.shape) h) (subst (λ k. suc k ≤ cell_count grid) (sym regions.tiles) regions.room);
   short = subst (λ k. k ≤ 9) (sym regions.tiles) regions.short;
   choices = regions.choices;
   regions = regions.regions;
@@ -593,7 +593,7 @@ array_parts : (k : ℕ) (ys rest : List ℕ) → 0 < k → length ys ≡ k → g
 array_parts k [] rest some long = absurd (omega (arith, some, long))
 array_parts k (y ∷ ys) rest some long = ap (λ zs. y ∷ zs) (take_at ys rest (k - 1) (omega (arith, some, long)))
 
-module _ (g : Selection) (r : Regions) (nodes : List ℕ) (regions : IsRegions g.grid (length g.tiles) r) where
+module _ (g : GroupModel) (r : Regions) (nodes : List ℕ) (regions : IsRegions g.grid (length g.tiles) r) where
   one_count : cell_count r.shape ≡ cell_count g.grid
   one_count = ap cell_count regions.shape
 
@@ -643,13 +643,13 @@ module _ (g : Selection) (r : Regions) (nodes : List ℕ) (regions : IsRegions g
       pub parts_more :
           (old new : List ℕ)
           → AreRows (cell_count g.grid) (length g.tiles) (node_value r nodes) row old
-          → IsRow (get_or (list ++ drop r.count array) 0 0 ∷ take (r.count - 1) (drop 1 (list ++ drop r.count array))) (λ z. node_value r nodes (get_or (list ++ drop r.count array) 0 0 ∷ (take (r.count - 1) (drop 1 (list ++ drop r.count array)) ++ z ∷ []))) old (cell_count r.shape) new
+          → IsRowAppended (get_or (list ++ drop r.count array) 0 0 ∷ take (r.count - 1) (drop 1 (list ++ drop r.count array))) (λ z. node_value r nodes (get_or (list ++ drop r.count array) 0 0 ∷ (take (r.count - 1) (drop 1 (list ++ drop r.count array)) ++ z ∷ []))) old (cell_count r.shape) new
           → AreRows (cell_count g.grid) (length g.tiles) (node_value r nodes) (row + 1) new
       parts_more old new rows more =
           rows_more (cell_count g.grid) (length g.tiles) (node_value r nodes) row (get_or (list ++ drop r.count array) 0 0 ∷ take (r.count - 1) (drop 1 (list ++ drop r.count array))) old new
           (let room = regions.room in omega (arith, room)) parts_in parts_long
           (ap (rank_of (cell_count g.grid)) parts_are ∙ rank_of-list_at (cell_count g.grid) (length g.tiles) row room_in row_in) rows
-          (subst (λ n. IsRow (get_or (list ++ drop r.count array) 0 0 ∷ take (r.count - 1) (drop 1 (list ++ drop r.count array))) (λ z. node_value r nodes (get_or (list ++ drop r.count array) 0 0 ∷ (take (r.count - 1) (drop 1 (list ++ drop r.count array)) ++ z ∷ []))) old n new) one_count more)
+          (subst (λ n. IsRowAppended (get_or (list ++ drop r.count array) 0 0 ∷ take (r.count - 1) (drop 1 (list ++ drop r.count array))) (λ z. node_value r nodes (get_or (list ++ drop r.count array) 0 0 ∷ (take (r.count - 1) (drop 1 (list ++ drop r.count array)) ++ z ∷ []))) old n new) one_count more)
 
   -- the values of all rows are those of all views
   pub all_rows : (row : ℕ) (items : List ℕ) → row ≡ folded_size_of g → AreRows (cell_count g.grid) (length g.tiles) (node_value r nodes) row items → length items ≡ size_of g
@@ -657,7 +657,7 @@ module _ (g : Selection) (r : Regions) (nodes : List ℕ) (regions : IsRegions g
       rows.size ∙ ap (λ m. m * (cell_count g.grid - length g.tiles)) end ∙ sym (ways-last (cell_count g.grid) (length g.tiles) (let room = regions.room in omega (arith, room)))
 
   pub all_views : (row : ℕ) (items : List ℕ) → row ≡ folded_size_of g → AreRows (cell_count g.grid) (length g.tiles) (node_value r nodes) row items
-      → (v : Sight) → IsView g.grid g.tiles v → slice_index items (rank_in g.grid v) ≡ slice_index nodes (node_in r v)
+      → (v : ViewModel) → IsView g.grid g.tiles v → slice_index items (rank_in g.grid v) ≡ slice_index nodes (node_in r v)
   all_views row items end rows v view =
       rows.values (v.blank ∷ v.cells) (view_listing g.grid g.tiles v view) (ap suc view.one_each) (let low = sight_below g.grid g.tiles v view in let e = all_rows row items end rows in omega (arith, low, e))
 
@@ -722,7 +722,7 @@ list_back n xs is room =
 -- ---- the places of tiles
 
 -- the cells of a view differ, so there are no more than the grid has
-pub view_room : (g : Selection) (v : Sight) → IsView g.grid g.tiles v → suc (length v.cells) ≤ cell_count g.grid
+pub view_room : (g : GroupModel) (v : ViewModel) → IsView g.grid g.tiles v → suc (length v.cells) ≤ cell_count g.grid
 view_room g v view =
     let is = listing g.grid g.tiles v view in
     let n = cell_count g.grid in
@@ -739,7 +739,7 @@ placement_below n count cells is long =
     let c = mul_comm (factorial count) (choose n count) in
     omega (arith, m, c)
 
-module _ (g : Selection) (v : Sight) (view : IsView g.grid g.tiles v) where
+module _ (g : GroupModel) (v : ViewModel) (view : IsView g.grid g.tiles v) where
   -- the cells of its tiles are those of its place
   place_back : list_at (cell_count g.grid) (length g.tiles) (place_in g.grid v) ≡ v.cells
   place_back =
@@ -749,21 +749,21 @@ module _ (g : Selection) (v : Sight) (view : IsView g.grid g.tiles v) where
 -- ---- folded values by place
 
 -- there are as many placements as places
-pub least_long : (g : Selection) (least : List ℕ) → length least ≡ placement_count (cell_count g.grid) (length g.tiles) → length least ≡ folded_size_of g
+pub least_long : (g : GroupModel) (least : List ℕ) → length least ≡ placement_count (cell_count g.grid) (length g.tiles) → length least ≡ folded_size_of g
 least_long g least are = are ∙ choose_ways (cell_count g.grid) (length g.tiles)
 
 -- what the tiles have on the cells of a place
-abbrev pub at_place : Selection → List ℕ → ℕ → ℕ
+abbrev pub at_place : GroupModel → List ℕ → ℕ → ℕ
 at_place g least place = slice_index least (placement_in (length g.tiles) (list_at (cell_count g.grid) (length g.tiles) place))
 
 -- the values of all places are those of all views
-pub places_all : (g : Selection) (least items : List ℕ) (place : ℕ) → place ≡ folded_size_of g → items ≡ map (at_place g least) (range_with_len 0 place) → (v : Sight) → IsView g.grid g.tiles v → slice_index items (place_in g.grid v) ≡ slice_index least (placement_in (length g.tiles) v.cells)
+pub places_all : (g : GroupModel) (least items : List ℕ) (place : ℕ) → place ≡ folded_size_of g → items ≡ map (at_place g least) (range_with_len 0 place) → (v : ViewModel) → IsView g.grid g.tiles v → slice_index items (place_in g.grid v) ≡ slice_index least (placement_in (length g.tiles) v.cells)
 places_all g least items place end are v view =
     ap (λ (xs : List ℕ). slice_index xs (place_in g.grid v)) are
     ∙ get_or-map-range_with_len (at_place g least) 0 place (place_in g.grid v) (place_in g.grid v) 0 (let low = view_place_below g.grid g.tiles v view in omega (arith, low, end)) (omega arith)
     ∙ ap (λ (xs : List ℕ). slice_index least (placement_in (length g.tiles) xs)) (place_back g v view)
 
-module _ (g : Selection) (group : IsSelection g) (place : ℕ) (low : place < folded_size_of g) (cells count : ℕ) (array list : List ℕ)
+module _ (g : GroupModel) (group : IsGroup g) (place : ℕ) (low : place < folded_size_of g) (cells count : ℕ) (array list : List ℕ)
     (counted : cells ≡ cell_count g.grid) (tiles : count ≡ length g.tiles) (all : length array ≡ 9) (is : list ≡ list_at cells (length (take count array)) place) where
   -- the cells that are written over the first of an array are those of the place
   pub cells_read : take count (list ++ drop count array) ≡ list_at (cell_count g.grid) (length g.tiles) place

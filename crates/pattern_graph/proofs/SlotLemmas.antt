@@ -7,7 +7,7 @@ use Rattle.std.proofs.lemmas.Nat.{mul-add-lt, div-mul-add, mod-mul-add, mul-le}
 use Rattle.std.proofs.lemmas.List.{take_at, take_all, take_more, append_assoc, ext_get_or, get_or-take, get_or-drop, get_or_append_left, get_or_default, get_or-append-add, length-append, length-drop, length-take-le, length-set, length-replicate, get_or_read}
 use Rattle.std.proofs.lemmas.List.Elements.{recursion_from_All}
 use Rattle.std.proofs.lemmas.Option.{slice_get_read}
-use Rattle.board.specs.Grids.{cell_count}
+use Rattle.board.specs.Shapes.{cell_count}
 use Rattle.pattern_index.specs.Laws.{factorial}
 use Rattle.pattern_index.specs.Sparse.{digit_base, digits_in, sparse_of}
 use Rattle.pattern_index.proofs.RankLemmas.{Below}

@@ -34,7 +34,7 @@ pub record IsStepEdge (r : Regions) (cells : List ℕ) (region from : ℕ) (m : 
   pub edge : IsEdgeOf r cells from to e
 
 -- the edges found for the first tiles and directions
-pub record AreFound (r : Regions) (cells : List ℕ) (region tried : ℕ) (found : List Edge) : Type 0 where
+pub record AreEdgesFound (r : Regions) (cells : List ℕ) (region tried : ℕ) (found : List Edge) : Type 0 where
   pub few : length found ≤ tried
   pub sound : (e : Edge) → Contains found e → (from : ℕ) × (m : Move) × Contains cells from × IsStepEdge r cells region from m e
   pub complete : (tile number to : ℕ) → number < 4 → tile * 4 + number < tried → IsStep r cells region (slice_index cells tile) (slice_index_or all_moves number U) to
@@ -42,7 +42,7 @@ pub record AreFound (r : Regions) (cells : List ℕ) (region tried : ℕ) (found
 
 -- the edges found for the first tiles and directions stand behind others
 abbrev pub HasFound : Regions → List ℕ → ℕ → ℕ → List Edge → List Edge → Type 0
-HasFound r cells region tried old new = (found : List Edge) × (new ≡ old ++ found) × AreFound r cells region tried found
+HasFound r cells region tried old new = (found : List Edge) × (new ≡ old ++ found) × AreEdgesFound r cells region tried found
 
 -- the edge begins in a region: it is one of a tile that goes into it, wherever the tiles stand on its set
 abbrev pub IsTrueEdge : Regions → ℕ → Edge → Type 0
@@ -51,7 +51,7 @@ IsTrueEdge r region e =
     → (m : Move) × (from : ℕ) × (to : ℕ) × IsCrossing r.shape cells m from to × (region_in r cells to ≡ region) × IsEdgeOf r cells from to e
 
 -- the edges added to others are those of a region
-pub record AreAdded (r : Regions) (region : ℕ) (old new : List Edge) : Type 0 where
+pub record AreEdgesAdded (r : Regions) (region : ℕ) (old new : List Edge) : Type 0 where
   pub found : List Edge
   pub more : new ≡ old ++ found
   pub few : length found ≤ r.count * 4

@@ -1,11 +1,11 @@
 -- The nodes of the search: the views that show a group's tiles on the same cells, with the blank in one region.
 use Rattle.std.specs.Prelude.{ℕ, suc, ◌≡◌, ◌⊎◌, ◌+◌, ◌-◌, ◌*◌, ◌/◌, ◌%◌, ◌<◌, ◌≤◌, List, length, map, slice_index}
 use Rattle.board.specs.declared.moves.Move.{Move}
-use Rattle.board.specs.CostRules.{CostRule, weight_of}
-use Rattle.board.specs.Grids.{Grid}
+use Rattle.board.specs.Weights.{WeightsModel, weight_of}
+use Rattle.board.specs.Shapes.{ShapeModel}
 use Rattle.pattern_index.specs.Laws.{factorial}
-use Rattle.pattern_index.specs.Views.{Sight, IsView, Abstraction, ViewMoves, ViewLeads}
-use Rattle.pattern_index.specs.Selections.{Selection, abstraction_of}
+use Rattle.pattern_index.specs.Views.{ViewModel, IsView, Abstraction, ViewMoves, ViewLeads}
+use Rattle.pattern_index.specs.Groups.{GroupModel, abstraction_of}
 use Rattle.pattern_index.specs.declared.group.TheConstants.{MAX_SIZE}
 use Rattle.pattern_graph.specs.Orders.{order_of, positions_at, tile_of, exchanged, moved_order}
 use Rattle.pattern_graph.specs.Regions.{IsRegions, region_in, HasEdge}
@@ -42,7 +42,7 @@ pub record IsOrders (count : ℕ) (o : Orders) : Type 0 where
   pub moves : count ≤ MOST_MOVED → AreMoves count o.moves.items
 
 -- the node of a view
-abbrev pub node_in : Regions → Sight → ℕ
+abbrev pub node_in : Regions → ViewModel → ℕ
 node_in r v = region_in r v.cells v.blank * factorial r.count + order_of v.cells
 
 -- how many nodes there are
@@ -50,12 +50,12 @@ abbrev pub node_count : Regions → ℕ
 node_count r = length r.homes.items * factorial r.count
 
 -- the regions are those of all sets of `count` cells of a grid, and there is one entry for each node
-pub record AreNodesOf {A : Type 0} (grid : Grid) (count : ℕ) (r : Regions) (nodes : List A) : Type 0 where
+pub record AreNodesOf {A : Type 0} (grid : ShapeModel) (count : ℕ) (r : Regions) (nodes : List A) : Type 0 where
   pub regions : IsRegions grid count r
   pub one_each : length nodes ≡ node_count r
 
 -- what it costs to move each tile of a group, by the tile's place among them
-abbrev pub AreWeightsOf : CostRule → List ℕ → List ℕ → Type 0
+abbrev pub AreWeightsOf : WeightsModel → List ℕ → List ℕ → Type 0
 AreWeightsOf rule tiles weights = (place : ℕ) → place < length tiles → slice_index weights place ≡ weight_of rule (slice_index tiles place)
 
 -- each of these costs something
@@ -70,22 +70,22 @@ pub record IsPast (r : Regions) (es : Edges) (weights : List ℕ) (node : ℕ) (
 
 -- the graph of nodes and edges is that of views and view moves, with the moves that cost nothing drawn together
 pub record IsGraph (a : Abstraction) (r : Regions) (es : Edges) (weights : List ℕ) : Type 0 where
-  pub inside : (v : Sight) → IsView a.grid a.tiles v → node_in r v < node_count r
+  pub inside : (v : ViewModel) → IsView a.grid a.tiles v → node_in r v < node_count r
   -- each node has a view
-  pub seen : (node : ℕ) → node < node_count r → (v : Sight) × IsView a.grid a.tiles v × (node_in r v ≡ node)
+  pub seen : (node : ℕ) → node < node_count r → (v : ViewModel) × IsView a.grid a.tiles v × (node_in r v ≡ node)
   -- views of one node are joined by moves that cost nothing
-  pub joined : (v w : Sight) → IsView a.grid a.tiles v → IsView a.grid a.tiles w → node_in r v ≡ node_in r w → (plan : List Move) × ViewLeads a v plan w 0
+  pub joined : (v w : ViewModel) → IsView a.grid a.tiles v → IsView a.grid a.tiles w → node_in r v ≡ node_in r w → (plan : List Move) × ViewLeads a v plan w 0
   -- a view move stays in its node at no cost, or there is an edge for it
-  pub complete : (v : Sight) (m : Move) (v' : Sight) (c : ℕ) → IsView a.grid a.tiles v → ViewMoves a v m v' c
+  pub complete : (v : ViewModel) (m : Move) (v' : ViewModel) (c : ℕ) → IsView a.grid a.tiles v → ViewMoves a v m v' c
       → ((node_in r v' ≡ node_in r v) × (c ≡ 0)) ⊎ ((e : Edge) × IsPast r es weights (node_in r v) e (node_in r v') c)
   -- each edge is one of a view move, by which each view of the other node comes to the first one
   pub sound : (node : ℕ) (e : Edge) (other c : ℕ) → node < node_count r → IsPast r es weights node e other c
-      → (other < node_count r) × ((w : Sight) → IsView a.grid a.tiles w → node_in r w ≡ other → (v : Sight) × IsView a.grid a.tiles v × (node_in r v ≡ node) × ((plan : List Move) × ViewLeads a w plan v c))
+      → (other < node_count r) × ((w : ViewModel) → IsView a.grid a.tiles w → node_in r w ≡ other → (v : ViewModel) × IsView a.grid a.tiles v × (node_in r v ≡ node) × ((plan : List Move) × ViewLeads a w plan v c))
 
 -- ---- the graph of a group, and what a search reads of it
 
 -- the regions are those of the group, and the graph is that of its views
-pub record IsGraphOf (selection : Selection) (rule : CostRule) (g : Graph) : Type 0 where
+pub record IsGraphOf (selection : GroupModel) (rule : WeightsModel) (g : Graph) : Type 0 where
   pub regions : IsRegions selection.grid (length selection.tiles) g.regions
   pub graph : IsGraph (abstraction_of selection rule) g.regions g.edges g.costs
 

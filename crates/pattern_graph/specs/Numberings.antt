@@ -1,7 +1,7 @@
 -- How regions are numbered: the labels of a set's free cells, and then one cell of one set after another.
 use Rattle.std.specs.Prelude.{ℕ, ◌≡◌, ◌<◌, ◌≤◌, Bool, true, false, List, length, sum, slice_index, Contains, suc, ◌+◌, ◌-◌, ◌*◌, ◌^◌, Some, slice_get}
 use Rattle.board.specs.declared.moves.Move.{Move}
-use Rattle.board.specs.Grids.{Grid, cell_count}
+use Rattle.board.specs.Shapes.{ShapeModel, cell_count}
 use Rattle.board.specs.Neighbours.{LiesTowards}
 use Rattle.pattern_index.specs.Ranks.{ways, IsListing}
 use Rattle.pattern_index.specs.declared.group.TheConstants.{MAX_SIZE}
@@ -14,22 +14,22 @@ use Rattle.pattern_graph.specs.declared.regions.Regions.{Regions}
 -- ---- labels: for each free cell one that the blank reaches from it
 
 -- the label of a cell is a free cell that is not above it, and the blank gets there
-pub record IsLabel (grid : Grid) (cells : List ℕ) (cell label : ℕ) : Type 0 where
+pub record IsLabel (grid : ShapeModel) (cells : List ℕ) (cell label : ℕ) : Type 0 where
   pub low : label ≤ cell
   pub free : ¬ Contains cells label
   pub reached : (moves : List Move) × Wanders grid cells cell moves label
 
 -- each free cell has a label
-pub record AreLabels (grid : Grid) (cells labels : List ℕ) : Type 0 where
+pub record AreLabels (grid : ShapeModel) (cells labels : List ℕ) : Type 0 where
   pub size : length labels ≡ 25
   pub each : (cell : ℕ) → IsFree grid cells cell → IsLabel grid cells cell (slice_index labels cell)
 
 -- the free neighbour's label is not below the cell's
-abbrev pub IsSettledTowards : Grid → List ℕ → List ℕ → Move → ℕ → Type 0
+abbrev pub IsSettledTowards : ShapeModel → List ℕ → List ℕ → Move → ℕ → Type 0
 IsSettledTowards grid cells labels m cell = (next : ℕ) → IsFree grid cells cell → LiesTowards grid m cell next → ¬ Contains cells next → slice_index labels cell ≤ slice_index labels next
 
 -- no free neighbour's label is
-abbrev pub IsSettled : Grid → List ℕ → List ℕ → ℕ → Type 0
+abbrev pub IsSettled : ShapeModel → List ℕ → List ℕ → ℕ → Type 0
 IsSettled grid cells labels cell = (m : Move) → IsSettledTowards grid cells labels m cell
 
 -- the labels fall if some is changed, and are as they were if none is
@@ -38,45 +38,45 @@ pub record IsLowering (before after : List ℕ) (changed : Bool) : Type 0 where
   pub same : changed ≡ false → after ≡ before
 
 -- the labels after that: each free cell still has one, and if none was changed they are settled so far
-pub record HasLowered (grid : Grid) (cells : List ℕ) (AreSettledSoFar : List ℕ → Type 0) (before after : List ℕ) (changed : Bool) : Type 0 where
+pub record HasLowered (grid : ShapeModel) (cells : List ℕ) (AreSettledSoFar : List ℕ → Type 0) (before after : List ℕ) (changed : Bool) : Type 0 where
   pub labels : AreLabels grid cells after
   pub lowering : IsLowering before after changed
   pub settled : changed ≡ false → AreSettledSoFar after
 
 -- all free cells that the blank reaches from one another have one label
-pub record AreSettled (grid : Grid) (cells labels : List ℕ) : Type 0 where
+pub record AreSettled (grid : ShapeModel) (cells labels : List ℕ) : Type 0 where
   pub are : AreLabels grid cells labels
   pub near : (m : Move) (from to : ℕ) → IsFree grid cells from → IsFree grid cells to → LiesTowards grid m from to → slice_index labels to ≡ slice_index labels from
 
 -- ---- numbers
 
 -- a region's home is a free cell, whose number is the region
-pub record IsHome (grid : Grid) (count : ℕ) (numbers : List ℕ) (region : ℕ) (home : Home) : Type 0 where
+pub record IsHome (grid : ShapeModel) (count : ℕ) (numbers : List ℕ) (region : ℕ) (home : Home) : Type 0 where
   pub place : home.set * cell_count grid + home.cell < length numbers
   pub free : IsFree grid (set_at (cell_count grid) count home.set) home.cell
   pub number : slice_index numbers (home.set * cell_count grid + home.cell) ≡ region
 
 -- each free cell of a set below a limit is numbered by the region whose home is its label
-abbrev pub IsNumberedRow : Grid → List ℕ → List ℕ → List ℕ → List Home → ℕ → ℕ → Type 0
+abbrev pub IsNumberedRow : ShapeModel → List ℕ → List ℕ → List ℕ → List Home → ℕ → ℕ → Type 0
 IsNumberedRow grid cells labels numbers homes set limit = (cell : ℕ) → cell < limit → IsFree grid cells cell → slice_get homes (slice_index numbers (set * cell_count grid + cell)) ≡ Some (record { set = set; cell = slice_index labels cell })
 
 -- all free cells of a set are
-pub record HasRow (grid : Grid) (count : ℕ) (numbers : List ℕ) (homes : List Home) (set : ℕ) : Type 0 where
+pub record IsSetNumbered (grid : ShapeModel) (count : ℕ) (numbers : List ℕ) (homes : List Home) (set : ℕ) : Type 0 where
   pub labels : List ℕ
   pub settled : AreSettled grid (set_at (cell_count grid) count set) labels
   pub row : IsNumberedRow grid (set_at (cell_count grid) count set) labels numbers homes set (cell_count grid)
 
 -- the cells of the sets below one are numbered
-pub record AreNumbered (grid : Grid) (count : ℕ) (numbers : List ℕ) (homes : List Home) (set : ℕ) : Type 0 where
+pub record AreNumbered (grid : ShapeModel) (count : ℕ) (numbers : List ℕ) (homes : List Home) (set : ℕ) : Type 0 where
   pub size : length numbers ≡ set * cell_count grid
-  pub rows : (other : ℕ) → other < set → HasRow grid count numbers homes other
+  pub rows : (other : ℕ) → other < set → IsSetNumbered grid count numbers homes other
   pub are_homes : (region : ℕ) (home : Home) → slice_get homes region ≡ Some home → IsHome grid count numbers region home
   pub few : length homes ≤ set * (cell_count grid - count)
 
 -- and the cells below one of that set
-pub record AreNumberedTo (grid : Grid) (count : ℕ) (cells labels numbers : List ℕ) (homes : List Home) (set cell : ℕ) : Type 0 where
+pub record AreNumberedTo (grid : ShapeModel) (count : ℕ) (cells labels numbers : List ℕ) (homes : List Home) (set cell : ℕ) : Type 0 where
   pub size : length numbers ≡ set * cell_count grid + cell
-  pub rows : (other : ℕ) → other < set → HasRow grid count numbers homes other
+  pub rows : (other : ℕ) → other < set → IsSetNumbered grid count numbers homes other
   pub row : IsNumberedRow grid cells labels numbers homes set cell
   pub are_homes : (region : ℕ) (home : Home) → slice_get homes region ≡ Some home → IsHome grid count numbers region home
   pub few : length homes + below cell cells ≤ set * (cell_count grid - count) + cell
@@ -86,7 +86,7 @@ abbrev pub AreNumberedIn : Regions → List ℕ → List ℕ → ℕ → ℕ →
 AreNumberedIn r cells labels set cell = AreNumberedTo r.shape (length cells) cells labels r.numbers.items r.homes.items set cell
 
 -- the regions of the sets of `count` cells below one are numbered, and there are no more views than a group may have
-pub record AreBegun (grid : Grid) (count set : ℕ) (r : Regions) : Type 0 where
+pub record AreBegun (grid : ShapeModel) (count set : ℕ) (r : Regions) : Type 0 where
   pub shape : r.shape ≡ grid
   pub tiles : r.count ≡ count
   pub choices : IsChoices r.choices
@@ -108,7 +108,7 @@ pub record AreOfSameSets (r r' : Regions) : Type 0 where
 
 -- The cells of a set in rising order, and the labels of free cells. The set's number fits 32 bits, and the regions of the sets below it
 -- are at most `MAX_SIZE`.
-pub record IsLabelled (grid : Grid) (set : ℕ) (cells labels : List ℕ) : Type 0 where
+pub record IsLabelled (grid : ShapeModel) (set : ℕ) (cells labels : List ℕ) : Type 0 where
   pub listing : IsListing (cell_count grid) cells
   pub cells_are : cells ≡ set_at (cell_count grid) (length cells) set
   pub settled : AreSettled grid cells labels

@@ -1,9 +1,9 @@
 -- The placements of a group's tiles, by their set of cells and then by their order, and what views have by rank and by slot.
 use Rattle.std.specs.Prelude.{ℕ, ◌≡◌, ◌↔◌, ◌+◌, ◌*◌, ◌<◌, Bool, List, length, slice_index, ◌≢◌, AllPairs, slice_get, ◌-◌, [], ◌∷◌, ◌++◌, Contains, suc, ◌⊎◌, ◌^◌}
-use Rattle.board.specs.Grids.{Grid, cell_count}
+use Rattle.board.specs.Shapes.{ShapeModel, cell_count}
 use Rattle.pattern_index.specs.Laws.{factorial}
-use Rattle.pattern_index.specs.Selections.{Selection, IsSelection, place_in, rank_in}
-use Rattle.pattern_index.specs.Views.{Sight, IsView}
+use Rattle.pattern_index.specs.Groups.{GroupModel, IsGroup, place_in, rank_in}
+use Rattle.pattern_index.specs.Views.{ViewModel, IsView}
 use Rattle.pattern_index.specs.Sparse.{digits_in, sparse_in, sparse_of, sparse_size_of, digit_base}
 use Rattle.pattern_index.specs.Ranks.{IsListing}
 use Rattle.pattern_graph.specs.Sets.{AreMarksOf, choose, set_at, set_place, AreSame}
@@ -21,16 +21,16 @@ abbrev pub placement_count : ℕ → ℕ → ℕ
 placement_count cells count = choose cells count * factorial count
 
 -- there is one entry for each placement of a group's tiles
-abbrev pub IsOnePerPlacement : {A : Type 0} → Selection → List A → Type 0
+abbrev pub IsOnePerPlacement : {A : Type 0} → GroupModel → List A → Type 0
 IsOnePerPlacement g least = length least ≡ placement_count (cell_count g.grid) (length g.tiles)
 
 -- tiles stand on these different cells, which are marked
-pub record AreMarkedCells (grid : Grid) (count : ℕ) (cells : List ℕ) (marks : List Bool) : Type 0 where
+pub record AreMarkedCells (grid : ShapeModel) (count : ℕ) (cells : List ℕ) (marks : List Bool) : Type 0 where
   pub placed : IsPlaced grid count cells
   pub marked : AreMarksOf cells marks
 
 -- the cells of a set of `count` cells of a grid, in rising order
-abbrev pub IsSetList : Grid → ℕ → List ℕ → Type 0
+abbrev pub IsSetList : ShapeModel → ℕ → List ℕ → Type 0
 IsSetList grid count cells = (set : ℕ) × (set < choose (cell_count grid) count) × (cells ≡ set_at (cell_count grid) count set)
 
 -- the set is one of those of the regions, and there is one entry for each of their nodes
@@ -40,33 +40,33 @@ pub record AreNodesWith {A : Type 0} (set : ℕ) (r : Regions) (nodes : List A) 
   pub inside : set < choose (cell_count r.shape) r.count
 
 -- the values of a group's views, by rank, are those of their nodes
-abbrev pub AreNodeValues : Selection → Regions → List ℕ → List ℕ → Type 0
-AreNodeValues g r nodes values = (v : Sight) → IsView g.grid g.tiles v → slice_index values (rank_in g.grid v) ≡ slice_index nodes (node_in r v)
+abbrev pub AreNodeValues : GroupModel → Regions → List ℕ → List ℕ → Type 0
+AreNodeValues g r nodes values = (v : ViewModel) → IsView g.grid g.tiles v → slice_index values (rank_in g.grid v) ≡ slice_index nodes (node_in r v)
 
 -- the values of views, by the place of their tiles, are those of the tiles' placements
-abbrev pub ArePlaceValues : Selection → List ℕ → List ℕ → Type 0
-ArePlaceValues g least values = (v : Sight) → IsView g.grid g.tiles v → slice_index values (place_in g.grid v) ≡ slice_index least (placement_in (length g.tiles) v.cells)
+abbrev pub ArePlaceValues : GroupModel → List ℕ → List ℕ → Type 0
+ArePlaceValues g least values = (v : ViewModel) → IsView g.grid g.tiles v → slice_index values (place_in g.grid v) ≡ slice_index least (placement_in (length g.tiles) v.cells)
 
 -- no view has this sparse place: two of its digits, the cells of tiles, are the same
-abbrev pub HasNoView : Selection → ℕ → Type 0
+abbrev pub HasNoView : GroupModel → ℕ → Type 0
 HasNoView g sparse = ¬ AllPairs (λ x y. x ≢ y) (digits_in (cell_count g.grid) (length g.tiles) sparse)
 
 -- the law of that: a sparse place of a group has no view, by its digits, exactly if it isn't that of a view
 abbrev pub PlacesWithoutViews : Type 0
 PlacesWithoutViews =
-    (g : Selection) (sparse : ℕ)
-    → IsSelection g
+    (g : GroupModel) (sparse : ℕ)
+    → IsGroup g
     → sparse < sparse_size_of g
-    → HasNoView g sparse ↔ ((v : Sight) → IsView g.grid g.tiles v → sparse_in g.grid v ≢ sparse)
+    → HasNoView g sparse ↔ ((v : ViewModel) → IsView g.grid g.tiles v → sparse_in g.grid v ≢ sparse)
 
 -- at the sparse place of each placement on a set of cells stands what a row has at its order, and at the others what was there
-pub record AreWritten {A : Type 0} (g : Selection) (cells : List ℕ) (row old new : List A) : Type 0 where
+pub record AreWritten {A : Type 0} (g : GroupModel) (cells : List ℕ) (row old new : List A) : Type 0 where
   pub size : length new ≡ length old
   pub written : (xs : List ℕ) → IsPlaced g.grid (length g.tiles) xs → AreSame xs cells → slice_get new (sparse_of (cell_count g.grid) xs) ≡ slice_get row (order_of xs)
   pub others : (sparse : ℕ) → ((xs : List ℕ) → IsPlaced g.grid (length g.tiles) xs → AreSame xs cells → sparse_of (cell_count g.grid) xs ≢ sparse) → slice_get new sparse ≡ slice_get old sparse
 
 -- that holds of the placements of all sets of cells, where `least` has the rows of all sets
-pub record AreAllWritten {A : Type 0} (g : Selection) (least old new : List A) : Type 0 where
+pub record AreAllWritten {A : Type 0} (g : GroupModel) (least old new : List A) : Type 0 where
   pub size : length new ≡ length old
   pub written : (xs : List ℕ) → IsPlaced g.grid (length g.tiles) xs → slice_get new (sparse_of (cell_count g.grid) xs) ≡ slice_get least (placement_in (length g.tiles) xs)
   pub others : (sparse : ℕ) → HasNoView g sparse → slice_get new sparse ≡ slice_get old sparse
@@ -85,7 +85,7 @@ pub record AreLarger (r : Regions) (larger : List ℕ) : Type 0 where
       → slice_index larger (set_place xs * cell_count r.shape + z) ≡ set_place (xs ++ z ∷ [])
 
 -- behind the old values stand those of the free cells below one, in rising order
-pub record IsRow (xs : List ℕ) (value : ℕ → ℕ) (old : List ℕ) (cell : ℕ) (new : List ℕ) : Type 0 where
+pub record IsRowAppended (xs : List ℕ) (value : ℕ → ℕ) (old : List ℕ) (cell : ℕ) (new : List ℕ) : Type 0 where
   pub size : length new ≡ length old + (cell - below cell xs)
   pub kept : (i : ℕ) → i < length old → slice_index new i ≡ slice_index old i
   pub values : (z : ℕ) → z < cell → ¬ Contains xs z → slice_index new (length old + (z - below z xs)) ≡ value z
@@ -98,7 +98,7 @@ pub record ArePositions (count : ℕ) (positions : List ℕ) : Type 0 where
   pub are : (order tile : ℕ) → order < factorial count → tile < count → slice_index positions (order * count + tile) ≡ slice_index (positions_at count order) tile
 
 -- the cells of a set of as many cells as a group has tiles, and the positions of the tiles in all orders
-pub record AreSetOrders (g : Selection) (cells positions : List ℕ) : Type 0 where
+pub record AreSetOrders (g : GroupModel) (cells positions : List ℕ) : Type 0 where
   pub set : IsSetList g.grid (length g.tiles) cells
   pub orders : ArePositions (length g.tiles) positions
 

@@ -1,7 +1,7 @@
 -- Regions: the cells that the blank reaches past tiles of no group, while the tiles of a group stay where they are.
 use Rattle.std.specs.Prelude.{ℕ, suc, ◌≡◌, ◌+◌, ◌*◌, ◌<◌, ◌≤◌, List, [], ◌∷◌, length, Some, slice_get, slice_index, Contains}
 use Rattle.board.specs.declared.moves.Move.{Move}
-use Rattle.board.specs.Grids.{Grid, IsShape, cell_count}
+use Rattle.board.specs.Shapes.{ShapeModel, IsShape, cell_count}
 use Rattle.board.specs.Neighbours.{LiesTowards}
 use Rattle.pattern_index.specs.Laws.{factorial}
 use Rattle.pattern_index.specs.Ranks.{ways, IsListing}
@@ -14,22 +14,22 @@ use Rattle.pattern_graph.specs.declared.edges.Edge.{Edge}
 use Rattle.pattern_graph.specs.declared.edges.Edges.{Edges}
 
 -- `count` different cells of the grid
-pub record IsPlaced (grid : Grid) (count : ℕ) (cells : List ℕ) : Type 0 where
+pub record IsPlaced (grid : ShapeModel) (count : ℕ) (cells : List ℕ) : Type 0 where
   pub listing : IsListing (cell_count grid) cells
   pub one_each : length cells ≡ count
 
 -- the blank can stand on this cell while tiles stand on those
-pub record IsFree (grid : Grid) (cells : List ℕ) (cell : ℕ) : Type 0 where
+pub record IsFree (grid : ShapeModel) (cells : List ℕ) (cell : ℕ) : Type 0 where
   pub inside : cell < cell_count grid
   pub free : ¬ Contains cells cell
 
 -- tiles stand on different cells, and the blank on another one
-pub record AreApart (grid : Grid) (count : ℕ) (cells : List ℕ) (blank : ℕ) : Type 0 where
+pub record AreCellsApart (grid : ShapeModel) (count : ℕ) (cells : List ℕ) (blank : ℕ) : Type 0 where
   pub placed : IsPlaced grid count cells
   pub free : IsFree grid cells blank
 
 -- the moves take the blank from one cell to another past none of the tiles
-abbrev pub Wanders : Grid → List ℕ → ℕ → List Move → ℕ → Type 0
+abbrev pub Wanders : ShapeModel → List ℕ → ℕ → List Move → ℕ → Type 0
 Wanders grid cells from [] to = to ≡ from
 Wanders grid cells from (m ∷ moves) to = (next : ℕ) × LiesTowards grid m from next × (¬ Contains cells next) × Wanders grid cells next moves to
 
@@ -52,7 +52,7 @@ pub record HasRegions (r : Regions) : Type 0 where
   pub few : length r.homes.items * factorial r.count ≤ ways (cell_count r.shape) (suc r.count)
 
 -- the regions of all sets of `count` cells of a grid
-pub record IsRegions (grid : Grid) (count : ℕ) (r : Regions) : Type 0 where
+pub record IsRegions (grid : ShapeModel) (count : ℕ) (r : Regions) : Type 0 where
   pub shape : r.shape ≡ grid
   pub sides : IsShape grid
   pub tiles : r.count ≡ count
@@ -78,7 +78,7 @@ pub record AreSameRegions (r r' : Regions) : Type 0 where
 -- ---- edges
 
 -- the blank, on a free cell, is a neighbour of a tile that stands on another
-pub record IsCrossing (grid : Grid) (cells : List ℕ) (m : Move) (from to : ℕ) : Type 0 where
+pub record IsCrossing (grid : ShapeModel) (cells : List ℕ) (m : Move) (from to : ℕ) : Type 0 where
   pub blank : IsFree grid cells to
   pub tile : Contains cells from
   pub towards : LiesTowards grid m to from

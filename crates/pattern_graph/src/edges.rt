@@ -3,8 +3,9 @@
 ghost use Rattle.std.specs.Prelude.{ℕ, ◌≡◌, ◌*◌, ◌<◌, length, take};
 ghost use Rattle.std.specs.Prelude.{slice_index, IfOk, OnOk, MatchOption};
 ghost use Rattle.pattern_graph.specs.Orders.{below};
-ghost use Rattle.pattern_graph.specs.Regions.{AreApart, AreEdges, AreGroupRegions, IsEdgeOf};
-ghost use Rattle.pattern_graph.specs.Edges.{AreSetCells, IsStep, IsStepEdge, HasFound, AreAdded};
+ghost use Rattle.pattern_graph.specs.Regions.{AreCellsApart, AreEdges, AreGroupRegions, IsEdgeOf};
+ghost use Rattle.pattern_graph.specs.Edges.{AreSetCells, IsStep, IsStepEdge, HasFound};
+ghost use Rattle.pattern_graph.specs.Edges.{AreEdgesAdded};
 
 use crate::orders::count_below;
 use crate::regions::{Regions, stands_on};
@@ -68,7 +69,7 @@ impl Edges {
 fn add_region(edges: &mut Vec<Edge>, regions: &Regions, region: usize) -> Result<(), OutOfMemory>
     requires regions { AreGroupRegions regions.now }
     requires inside { region < length regions.now.homes.items }
-    ensures { OnOk result (AreAdded regions.now region edges.old.items edges.new.items) }
+    ensures { OnOk result (AreEdgesAdded regions.now region edges.old.items edges.new.items) }
 {
     let set = regions.homes[region].set as usize;
     let mut cells = [0; 9];
@@ -132,7 +133,7 @@ fn find_edge(
 // The edge of a tile that goes to a free cell.
 fn edge_to(regions: &Regions, cells: &[u8; 9], tile: usize, to: usize) -> Edge
     requires regions { AreGroupRegions regions.now }
-    requires apart { AreApart regions.now.shape regions.now.count
+    requires apart { AreCellsApart regions.now.shape regions.now.count
         (take regions.now.count cells.now) to }
     requires tile { tile < regions.now.count }
     requires rising { below (slice_index cells.now tile) (take regions.now.count cells.now) ≡ tile }

@@ -1,7 +1,7 @@
 //! What the tables of all groups of as many tiles have in common.
 
 ghost use Rattle.std.specs.Prelude.{◌≡◌, ◌↔◌, IfOk, IsTrue};
-ghost use Rattle.pattern_graph.specs.Frames.{Fits};
+ghost use Rattle.pattern_graph.specs.Frames.{FitsGroup};
 
 use crate::edges::Edges;
 use crate::orders::Orders;
@@ -21,9 +21,9 @@ pub struct Frame {
 }
 
 impl Model for Frame {
-    ghost use Rattle.pattern_graph.specs.Frames.{GroupSize, IsFrame, size_in};
+    ghost use Rattle.pattern_graph.specs.Frames.{FrameModel, IsFrame, size_in};
 
-    ghost Value = { GroupSize };
+    ghost Value = { FrameModel };
 
     ghost view = { size_in };
 
@@ -34,7 +34,7 @@ impl Frame {
     /// The frame of a group, and of all others of its shape with as many tiles. The error is
     /// `OutOfMemory`.
     pub fn new(alloc: Global, group: &Group) -> Result<Self, OutOfMemory>
-        ensures { IfOk result (λ frame. Fits frame group.now) }
+        ensures { IfOk result (λ frame. FitsGroup frame group.now) }
     {
         let count = group.tiles().len();
         let regions = Regions::new(alloc, group.shape(), count)?;
@@ -49,7 +49,7 @@ impl Frame {
 
     /// Whether the group has the frame's shape and number of tiles.
     pub fn fits(&self, group: &Group) -> bool
-        ensures { IsTrue result ↔ Fits self.now group.now }
+        ensures { IsTrue result ↔ FitsGroup self.now group.now }
     {
         self.regions.shape == group.shape() && self.regions.count == group.tiles().len()
     }

@@ -2,11 +2,12 @@
 
 ghost use Rattle.std.specs.Prelude.{◌≡◌, ◌<◌, length, slice_index, map};
 ghost use Rattle.pattern_index.specs.Views.{IsView, view_of};
-ghost use Rattle.pattern_index.specs.Selections.{IsSelection};
+ghost use Rattle.pattern_index.specs.Groups.{IsGroup};
 ghost use Rattle.pattern_graph.specs.Regions.{IsRegions};
-ghost use Rattle.pattern_graph.specs.Graphs.{AreSomeCosts, node_in, node_count, AreWeightsOf, IsGraphOf};
+ghost use Rattle.pattern_graph.specs.Graphs.{AreSomeCosts, node_in, node_count, AreWeightsOf};
+ghost use Rattle.pattern_graph.specs.Graphs.{IsGraphOf};
 ghost use Rattle.pattern_graph.specs.Graphs.{IsSoundGraph};
-ghost use Rattle.pattern_graph.specs.Frames.{Fits};
+ghost use Rattle.pattern_graph.specs.Frames.{FitsGroup};
 ghost use Rattle.pattern_graph.specs.Orders.{AreIndices};
 
 use crate::edges::Edges;
@@ -33,7 +34,7 @@ pub struct Graph {
 impl Graph {
     /// That of a group, in a frame that fits it.
     pub fn new(frame: Frame, group: &Group, weights: &Weights) -> Self
-        requires fits { Fits frame group.now }
+        requires fits { FitsGroup frame group.now }
         requires weights { weights.now.grid ≡ group.now.grid }
         ensures graph { IsGraphOf group.now weights.now result }
         ensures sound { IsSoundGraph result }
@@ -68,7 +69,7 @@ impl Graph {
 // What it costs to move each tile of a group, by its place among them.
 fn costs_of(group: &Group, weights: &Weights) -> [u8; 9]
     requires { weights.now.grid ≡ group.now.grid }
-    ensures group { IsSelection group.now }
+    ensures group { IsGroup group.now }
     ensures length { length result ≡ 9 }
     ensures costs { AreWeightsOf weights.now group.now.tiles result }
     ensures some { AreSomeCosts group.now.tiles result }

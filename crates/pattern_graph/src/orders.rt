@@ -1,10 +1,12 @@
 //! Orders: how tiles stand on a set of cells, whatever the cells are.
 
-ghost use Rattle.std.specs.Prelude.{ℕ, ◌≡◌, ◌+◌, ◌<◌, ◌≤◌, ◌==◌, ◌++◌, length, map, All, IfOk, OnOk};
+ghost use Rattle.std.specs.Prelude.{ℕ, ◌≡◌, ◌+◌, ◌<◌, ◌≤◌, ◌==◌, ◌++◌, length, map, All, IfOk};
+ghost use Rattle.std.specs.Prelude.{OnOk};
 ghost use Rattle.std.specs.List.{position_or_len, range_with_len};
 ghost use Rattle.pattern_index.specs.Laws.{factorial};
 ghost use Rattle.pattern_index.specs.Ranks.{spread};
-ghost use Rattle.pattern_graph.specs.Orders.{below, order_of, positions_at, tile_of, exchanged, moved_order};
+ghost use Rattle.pattern_graph.specs.Orders.{below, order_of, positions_at, tile_of, exchanged};
+ghost use Rattle.pattern_graph.specs.Orders.{moved_order};
 ghost use Rattle.pattern_graph.specs.Orders.{IsOrderOf, IsTileCount, IsChange, IsChanged};
 ghost use Rattle.pattern_graph.specs.Graphs.{AreMoves, HasPasses, HasPassesTo, IsOrders};
 

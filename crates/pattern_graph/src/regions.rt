@@ -3,13 +3,16 @@
 
 ghost use Rattle.std.specs.Prelude.{ℕ, suc, ◌≡◌, ◌<◌, ◌≤◌, ◌+◌, ◌^◌, ◌↔◌};
 ghost use Rattle.std.specs.Prelude.{IfOk, IsTrue, Contains};
-ghost use Rattle.board.specs.Grids.{cell_count};
+ghost use Rattle.board.specs.Shapes.{cell_count};
 ghost use Rattle.pattern_index.specs.Ranks.{ways};
 ghost use Rattle.pattern_index.specs.declared.group.TheConstants.{MAX_SIZE};
-ghost use Rattle.pattern_graph.specs.Regions.{AreApart, AreSameRegions, IsRegions, IsFree, region_in};
+ghost use Rattle.pattern_graph.specs.Regions.{AreCellsApart, AreSameRegions, IsRegions, IsFree};
+ghost use Rattle.pattern_graph.specs.Regions.{region_in};
 ghost use Rattle.pattern_graph.specs.Sets.{set_at};
-ghost use Rattle.pattern_graph.specs.Numberings.{AreNumberedIn, AreBegun, AreOfSameSets, IsLabelled, HasLowered};
-ghost use Rattle.pattern_graph.specs.Numberings.{AreLabels, AreSettled, IsSettled, IsSettledTowards, IsNextSet};
+ghost use Rattle.pattern_graph.specs.Numberings.{AreNumberedIn, AreBegun, AreOfSameSets};
+ghost use Rattle.pattern_graph.specs.Numberings.{IsLabelled, HasLowered};
+ghost use Rattle.pattern_graph.specs.Numberings.{AreLabels, AreSettled, IsSettled};
+ghost use Rattle.pattern_graph.specs.Numberings.{IsSettledTowards, IsNextSet};
 ghost use Rattle.pattern_graph.specs.Orders.{IsTileCount};
 
 use crate::sets::Choices;
@@ -141,7 +144,7 @@ impl Regions {
     // The region of the blank's cell while tiles stand on these cells.
     pub(crate) fn region(&self, cells: &[u8], blank: u8) -> usize
         requires regions { IsRegions self.now.shape self.now.count self.now }
-        requires apart { AreApart self.now.shape self.now.count cells.now blank }
+        requires apart { AreCellsApart self.now.shape self.now.count cells.now blank }
         ensures { result ≡ region_in self.now cells.now blank }
     {
         let set = self.choices.place(cells);

@@ -2,14 +2,15 @@
 
 ghost use Rattle.std.specs.Prelude.{suc, [], ◌≡◌, ◌-◌, ◌<◌, ◌++◌, ◌∷◌};
 ghost use Rattle.std.specs.Prelude.{length, take, IfOk, OnOk, Contains};
-ghost use Rattle.board.specs.Grids.{cell_count};
+ghost use Rattle.board.specs.Shapes.{cell_count};
 ghost use Rattle.pattern_index.specs.Laws.{factorial};
 ghost use Rattle.pattern_index.specs.Ranks.{IsListing};
-ghost use Rattle.pattern_index.specs.Selections.{size_of, folded_size_of};
+ghost use Rattle.pattern_index.specs.Groups.{size_of, folded_size_of};
 ghost use Rattle.pattern_graph.specs.Sets.{AreMarksOf, set_place};
 ghost use Rattle.pattern_graph.specs.Regions.{AreGroupRegions, IsRegions};
 ghost use Rattle.pattern_graph.specs.Graphs.{AreNodesOf, node_count};
-ghost use Rattle.pattern_graph.specs.Placements.{AreLarger, IsRow, node_value, IsOnePerPlacement, AreNodeValues};
+ghost use Rattle.pattern_graph.specs.Placements.{AreLarger, IsRowAppended, node_value};
+ghost use Rattle.pattern_graph.specs.Placements.{IsOnePerPlacement, AreNodeValues};
 ghost use Rattle.pattern_graph.specs.Placements.{ArePlaceValues};
 
 use crate::orders::{factorial, order_of};
@@ -70,7 +71,7 @@ fn add_row(
     requires nodes { length nodes.now ≡ node_count regions.now }
     requires listing { IsListing (cell_count regions.now.shape) (blank ∷ others.now) }
     requires count { suc (length others.now) ≡ regions.now.count }
-    ensures { OnOk result (IsRow (blank ∷ others.now)
+    ensures { OnOk result (IsRowAppended (blank ∷ others.now)
         (λ z. node_value regions.now nodes.now (blank ∷ (others.now ++ z ∷ [])))
         values.old.items (cell_count regions.now.shape) values.new.items) }
 {

@@ -1,11 +1,14 @@
 //! Values of views, by slot.
 
-ghost use Rattle.std.specs.Prelude.{suc, ◌≡◌, ◌+◌, ◌≤◌, ◌^◌, ◌++◌, IfOk, OnOk, length, map, slice_index};
+ghost use Rattle.std.specs.Prelude.{suc, ◌≡◌, ◌+◌, ◌≤◌, ◌^◌, ◌++◌, IfOk, OnOk, length, map};
+ghost use Rattle.std.specs.Prelude.{slice_index};
 ghost use Rattle.pattern_index.specs.Laws.{factorial};
 ghost use Rattle.pattern_index.specs.Sparse.{digit_base, sparse_size_of};
 ghost use Rattle.pattern_graph.specs.Orders.{IsOrderOf, order_of, positions_at, AreIndices};
-ghost use Rattle.pattern_graph.specs.Placements.{AreMarkedCells, IsOnePerPlacement, AreAllWritten, AreWritten};
-ghost use Rattle.pattern_graph.specs.Placements.{AreOrdersFilled, ArePositions, AreSetOrders, AreAllFilled};
+ghost use Rattle.pattern_graph.specs.Placements.{AreMarkedCells, IsOnePerPlacement, AreAllWritten};
+ghost use Rattle.pattern_graph.specs.Placements.{AreWritten};
+ghost use Rattle.pattern_graph.specs.Placements.{AreOrdersFilled, ArePositions, AreSetOrders};
+ghost use Rattle.pattern_graph.specs.Placements.{AreAllFilled};
 ghost use Rattle.pattern_graph.specs.Placements.{AreSetsFilled, AreNodesWith};
 ghost use Rattle.pattern_graph.specs.Sets.{set_place};
 ghost use Rattle.pattern_graph.specs.Graphs.{AreNodesOf};

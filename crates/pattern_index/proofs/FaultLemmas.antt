@@ -3,22 +3,22 @@ use Rattle.std.proofs.Common.{◌≡◌, ◌⊎◌, ℕ, zero, suc, ◌<◌, ◌
 use Rattle.std.specs.Prelude.{Contains}
 use Rattle.std.proofs.lemmas.Bool.{cases_order}
 use Rattle.std.proofs.lemmas.List.{get_or-take, get_or_default, length-take-le}
-use Rattle.board.specs.Grids.{Grid}
+use Rattle.board.specs.Shapes.{ShapeModel}
 use Rattle.pattern_index.specs.declared.group.TheConstants.{MAX_SIZE}
-use Rattle.pattern_index.specs.Selections.{Selection, IsTile, IsGroup, size_of}
-use Rattle.pattern_index.specs.Splits.{AreApart, IsSplitFault}
-use Rattle.pattern_index.specs.Faults.{IsFirstPlace, IsFirstFault}
+use Rattle.pattern_index.specs.Groups.{GroupModel, IsTile, AreGroupTiles, size_of}
+use Rattle.pattern_index.specs.Partitions.{AreApart, IsPartitionFault}
+use Rattle.pattern_index.specs.Faults.{IsFirstGroupPlace, IsFirstGroupFault}
 use Rattle.pattern_index.specs.declared.faults.GroupFault.{GroupFault}
 use Rattle.pattern_index.specs.declared.faults.GroupFault.TheVariants.{Empty, NotATile, Repeated, TooManyViews}
 use Rattle.pattern_index.specs.declared.faults.PartitionFault.{PartitionFault}
 use Rattle.pattern_index.specs.declared.faults.PartitionFault.TheVariants.{SharedTile, TooManyGroups}
 
 -- a group has no number that is no tile
-all_tiles : (grid : Grid) (xs : List ℕ) (place : ℕ) → IsGroup grid xs → place < length xs → ¬ IsTile grid (get_or xs place 0) → ⊥
+all_tiles : (grid : ShapeModel) (xs : List ℕ) (place : ℕ) → AreGroupTiles grid xs → place < length xs → ¬ IsTile grid (get_or xs place 0) → ⊥
 all_tiles grid xs place group within none = none (group.tiles place 0 within)
 
 -- and none that stood before
-none_repeated : (grid : Grid) (xs : List ℕ) (place : ℕ) → IsGroup grid xs → place < length xs → Contains (take place xs) (get_or xs place 0) → ⊥
+none_repeated : (grid : ShapeModel) (xs : List ℕ) (place : ℕ) → AreGroupTiles grid xs → place < length xs → Contains (take place xs) (get_or xs place 0) → ⊥
 none_repeated grid xs place group within found =
     let x = get_or xs place 0 in
     let front : length (take place xs) ≡ place = length-take-le place xs (omega arith) in
@@ -38,7 +38,7 @@ before xs p q lt within =
     (omega arith, get_or-take q xs p 0 lt, take_twice p q xs (omega arith))
 
 -- the first number that is no tile and the first that stood before aren't both the first fault
-tile_or_repeated : (grid : Grid) (numbers : List ℕ) → IsFirstFault grid numbers NotATile → IsFirstFault grid numbers Repeated → ⊥
+tile_or_repeated : (grid : ShapeModel) (numbers : List ℕ) → IsFirstGroupFault grid numbers NotATile → IsFirstGroupFault grid numbers Repeated → ⊥
 tile_or_repeated grid numbers first second =
     let p = first.0 in
     let q = second.0 in
@@ -52,17 +52,17 @@ tile_or_repeated grid numbers first second =
     (cases_order p q)
 
 -- numbers that make a group have no fault
-pub no_fault : (grid : Grid) (numbers : List ℕ) → 0 < length numbers → IsGroup grid numbers → size_of (record { grid = grid; tiles = numbers }) ≤ MAX_SIZE → (fault : GroupFault) → IsFirstFault grid numbers fault → ⊥
+pub no_fault : (grid : ShapeModel) (numbers : List ℕ) → 0 < length numbers → AreGroupTiles grid numbers → size_of (record { grid = grid; tiles = numbers }) ≤ MAX_SIZE → (fault : GroupFault) → IsFirstGroupFault grid numbers fault → ⊥
 no_fault grid numbers some group small Empty first = let e = ap length first in omega arith
 no_fault grid numbers some group small NotATile first = all_tiles grid numbers first.0 group first.1.within first.2
 no_fault grid numbers some group small Repeated first = none_repeated grid numbers first.0 group first.1.within first.3
 no_fault grid numbers some group small TooManyViews first = omega (arith, first.2)
 
-empty_place : (grid : Grid) (numbers : List ℕ) (place : ℕ) → numbers ≡ [] → IsFirstPlace grid numbers place → ⊥
+empty_place : (grid : ShapeModel) (numbers : List ℕ) (place : ℕ) → numbers ≡ [] → IsFirstGroupPlace grid numbers place → ⊥
 empty_place grid numbers place none first = let e = ap length none in omega (arith, first.within)
 
 -- numbers have one first fault
-pub one_fault : (grid : Grid) (numbers : List ℕ) (fault fault' : GroupFault) → IsFirstFault grid numbers fault → IsFirstFault grid numbers fault' → fault' ≡ fault
+pub one_fault : (grid : ShapeModel) (numbers : List ℕ) (fault fault' : GroupFault) → IsFirstGroupFault grid numbers fault → IsFirstGroupFault grid numbers fault' → fault' ≡ fault
 one_fault grid numbers Empty Empty first second = refl
 one_fault grid numbers Empty NotATile first second = absurd (empty_place grid numbers second.0 first second.1)
 one_fault grid numbers Empty Repeated first second = absurd (empty_place grid numbers second.0 first second.1)
@@ -81,12 +81,12 @@ one_fault grid numbers TooManyViews Repeated first second = absurd (none_repeate
 one_fault grid numbers TooManyViews TooManyViews first second = refl
 
 -- groups that make a partition have no fault
-pub no_split_fault : (groups : List Selection) → length groups ≤ 24 → AreApart groups → (fault : PartitionFault) → IsSplitFault groups fault → ⊥
+pub no_split_fault : (groups : List GroupModel) → length groups ≤ 24 → AreApart groups → (fault : PartitionFault) → IsPartitionFault groups fault → ⊥
 no_split_fault groups few apart SharedTile first = first.1 apart
 no_split_fault groups few apart TooManyGroups first = omega (arith, first)
 
 -- groups have one first fault
-pub one_split_fault : (groups : List Selection) (fault fault' : PartitionFault) → IsSplitFault groups fault → IsSplitFault groups fault' → fault' ≡ fault
+pub one_split_fault : (groups : List GroupModel) (fault fault' : PartitionFault) → IsPartitionFault groups fault → IsPartitionFault groups fault' → fault' ≡ fault
 one_split_fault groups SharedTile SharedTile first second = refl
 one_split_fault groups SharedTile TooManyGroups first second = absurd (omega (arith, first.0, second))
 one_split_fault groups TooManyGroups SharedTile first second = absurd (omega (arith, first, second.0))

@@ -15,23 +15,23 @@ use Rattle.std.proofs.lemmas.Map.Steps.{length-le_from_distinct_below}
 use Rattle.std.proofs.lemmas.Map.Made.{IsDistinct-from_AllPairs, AllPairs-from_IsDistinct}
 use Rattle.std.proofs.Math.Nat.{mul-le-mul_left, mul-le-mul_right, mul_assoc}
 use Rattle.std.proofs.lemmas.Nat.{mul-le}
-use Rattle.board.specs.Grids.{Grid, IsShape, cell_count}
+use Rattle.board.specs.Shapes.{ShapeModel, IsShape, cell_count}
 use Rattle.board.proofs.NeighbourLemmas.{cells_above}
 use Rattle.pattern_index.specs.Packing.{IsStoredGroup}
 use Rattle.pattern_index.specs.Ranks.{ways}
 use Rattle.pattern_index.specs.Laws.{factorial}
 use Rattle.pattern_index.specs.declared.group.TheConstants.{MAX_SIZE}
-use Rattle.pattern_index.specs.Selections.{Selection, IsTile, IsGroup, IsSelection, size_of}
+use Rattle.pattern_index.specs.Groups.{GroupModel, IsTile, AreGroupTiles, IsGroup, size_of}
 use Rattle.pattern_index.proofs.RankLemmas.{ways-suc, ways_some}
 
-pub group_none : (grid : Grid) → IsGroup grid []
+pub group_none : (grid : ShapeModel) → AreGroupTiles grid []
 group_none grid = record { tiles = All-nil (IsTile grid); different = λ i j d lt j_in. absurd (omega arith) }
 
 -- what `contains` answers of the tiles before a place
 pub contains_is : (xs : List ℕ) (x : ℕ) (r : Bool) → IsAnyAnswer (λ y b. eqb y x ≡ b) xs r → Decides r (Contains xs x)
 contains_is xs x r answer = Decides-contains xs x r (contains_decides eqb Decides-eqb xs x r answer)
 
-pub group_more : (grid : Grid) (ts : List ℕ) (p : ℕ) → p < length ts → 0 < get_or ts p 0 → get_or ts p 0 < cell_count grid → (Contains (take p ts) (get_or ts p 0) → ⊥) → IsGroup grid (take p ts) → IsGroup grid (take (p + 1) ts)
+pub group_more : (grid : ShapeModel) (ts : List ℕ) (p : ℕ) → p < length ts → 0 < get_or ts p 0 → get_or ts p 0 < cell_count grid → (Contains (take p ts) (get_or ts p 0) → ⊥) → AreGroupTiles grid (take p ts) → AreGroupTiles grid (take (p + 1) ts)
 group_more grid ts p p_in some below fresh group = record {
   tiles = All-more (IsTile grid) ts p 0 p_in group.tiles (some, below);
   different = subst (λ xs. AllPairs (λ x y. x ≢ y) xs) (sym (take_more ts p 0 p_in))
@@ -46,7 +46,7 @@ in_list (x ∷ xs) n q all found =
     (or_cases (eqb q x) (list_any (eqb q) xs) found)
 
 -- there are fewer tiles than cells
-pub group_room : (grid : Grid) (ts : List ℕ) → 0 < cell_count grid → IsGroup grid ts → suc (length ts) ≤ cell_count grid
+pub group_room : (grid : ShapeModel) (ts : List ℕ) → 0 < cell_count grid → AreGroupTiles grid ts → suc (length ts) ≤ cell_count grid
 group_room grid ts some group =
     length-le_from_distinct_below (0 ∷ ts) (cell_count grid) (IsDistinct-from_AllPairs Decides-eqb (0 ∷ ts) apart)
     (λ q found. in_list (0 ∷ ts) (cell_count grid) q (some, recursion_from_All (λ x. x < cell_count grid) ts (λ k d k_in. (group.tiles k d k_in).1)) found)
@@ -110,11 +110,11 @@ few_places n r le other small =
     twelve : (k : ℕ) → 11 ≤ k → k ≢ 11 → 12 ≤ k
     twelve k le ne = ⊎_elim (λ (lt : k < 12). absurd (ne (omega arith))) (λ (ge : 12 ≤ k). ge) (cases_lt k 12)
 
-pub cells_high : (grid : Grid) → IsShape grid → cell_count grid ≤ 25
+pub cells_high : (grid : ShapeModel) → IsShape grid → cell_count grid ≤ 25
 cells_high grid sides = mul-le grid.rows grid.cols 5 5 sides.rows_high sides.cols_high
 
 -- no board has 11 cells
-not_eleven : (grid : Grid) → IsShape grid → cell_count grid ≢ 11
+not_eleven : (grid : ShapeModel) → IsShape grid → cell_count grid ≢ 11
 not_eleven grid sides is =
     ⊎_elim (λ (e : grid.rows ≡ 2). at 2 e (λ c h. omega arith))
     (λ (n2 : grid.rows ≢ 2).
@@ -133,11 +133,11 @@ not_eleven grid sides is =
     five x low high a b c = grind (arith, nat_tests)
 
 -- a group's places, one for the blank, are 10 at most, and no more than the cells
-pub places_few : (grid : Grid) (numbers : List ℕ) → IsShape grid → IsGroup grid numbers → ways (cell_count grid) (suc (length numbers)) ≤ MAX_SIZE → suc (length numbers) ≤ 10
+pub places_few : (grid : ShapeModel) (numbers : List ℕ) → IsShape grid → AreGroupTiles grid numbers → ways (cell_count grid) (suc (length numbers)) ≤ MAX_SIZE → suc (length numbers) ≤ 10
 places_few grid numbers sides group small =
     few_places (cell_count grid) (suc (length numbers)) (group_room grid numbers (cells_above grid sides) group) (not_eleven grid sides) small
 
-pub groups_small : (g : Selection) → IsSelection g → (length g.tiles ≤ 9) × (suc (length g.tiles) ≤ cell_count g.grid)
+pub groups_small : (g : GroupModel) → IsGroup g → (length g.tiles ≤ 9) × (suc (length g.tiles) ≤ cell_count g.grid)
 groups_small g sound =
     let few = places_few g.grid g.tiles sound.sides sound.group sound.small in
     (omega arith, group_room g.grid g.tiles (cells_above g.grid sound.sides) sound.group)
@@ -146,7 +146,7 @@ eqb_comm : (x y : ℕ) → eqb x y ≡ eqb y x
 eqb_comm x y = grind (arith, nat_tests)
 
 -- the numbers in rising order are the tiles of a group
-pub selection_is : (grid : Grid) (numbers tiles : List ℕ) → IsShape grid → 0 < length numbers → IsGroup grid numbers → ways (cell_count grid) (suc (length numbers)) ≤ MAX_SIZE → IsPermutation numbers tiles → IsNonDecreasing tiles → IsSelection (record { grid = grid; tiles = tiles })
+pub selection_is : (grid : ShapeModel) (numbers tiles : List ℕ) → IsShape grid → 0 < length numbers → AreGroupTiles grid numbers → ways (cell_count grid) (suc (length numbers)) ≤ MAX_SIZE → IsPermutation numbers tiles → IsNonDecreasing tiles → IsGroup (record { grid = grid; tiles = tiles })
 selection_is grid numbers tiles sides any group small moved rising =
     let long = length_permutation numbers tiles moved in
     let distinct : IsDistinct eqb tiles = IsDistinct-IsPermutation eqb eqb_comm numbers tiles moved (IsDistinct-from_AllPairs Decides-eqb numbers group.different) in
@@ -159,13 +159,13 @@ selection_is grid numbers tiles sides any group small moved rising =
     }
 
 -- a count of ways, by the cells of a grid
-counted : (grid : Grid) (numbers : List ℕ) (cells size : ℕ) → cells ≡ cell_count grid → size ≡ ways cells (length numbers + 1) → size ≡ ways (cell_count grid) (suc (length numbers))
+counted : (grid : ShapeModel) (numbers : List ℕ) (cells size : ℕ) → cells ≡ cell_count grid → size ≡ ways cells (length numbers + 1) → size ≡ ways (cell_count grid) (suc (length numbers))
 counted grid numbers cells size e is = is ∙ (λ i. ways (e i) (add-one (length numbers) i))
 
 both : (n : ℕ) → n ≤ 9 → n + (9 - n) ≡ 9
 both n le = omega arith
 
-module _ (grid : Grid) (numbers : List ℕ) (cells size : ℕ) (sides : IsShape grid) (group : IsGroup grid numbers) (e : cells ≡ cell_count grid) (is : (size ≡ ways cells (length numbers + 1)) × (size ≤ MAX_SIZE)) where
+module _ (grid : ShapeModel) (numbers : List ℕ) (cells size : ℕ) (sides : IsShape grid) (group : AreGroupTiles grid numbers) (e : cells ≡ cell_count grid) (is : (size ≡ ways cells (length numbers + 1)) × (size ≤ MAX_SIZE)) where
   -- the numbers fit the array
   pub numbers_few : length numbers ≤ 9
   numbers_few =
@@ -186,10 +186,10 @@ module _ (grid : Grid) (numbers : List ℕ) (cells size : ℕ) (sides : IsShape 
       let zeros : drop (length numbers) (replicate 9 0) ≡ replicate (9 - length numbers) 0 = drop-replicate (length numbers) 9 0 in
       let taken : take (length numbers) (tiles ++ drop (length numbers) (replicate 9 0)) ≡ tiles = take_at tiles (drop (length numbers) (replicate 9 0)) (length numbers) long in
       let few = numbers_few in
-      let at : List ℕ → Selection = λ xs. record { grid = grid; tiles = xs } in
+      let at : List ℕ → GroupModel = λ xs. record { grid = grid; tiles = xs } in
       let behind : length (drop (length numbers) (replicate 9 0)) ≡ 9 - length numbers = ap length zeros ∙ length-replicate (9 - length numbers) 0 in
       record {
-        selection = subst (λ xs. IsSelection (at xs)) (sym taken) sound;
+        selection = subst (λ xs. IsGroup (at xs)) (sym taken) sound;
         tiles = record {
           few = few;
           all = length-append tiles (drop (length numbers) (replicate 9 0)) ∙ (λ i. long i + behind i) ∙ both (length numbers) few;

@@ -2,10 +2,10 @@
 use Rattle.std.proofs.Common.{◌≡◌, ℕ, zero, suc, ◌+◌, ◌-◌, ◌*◌, ◌/◌, ◌<◌, ◌≤◌, List, ◌∷◌, length, sym, ap, ◌∙◌, subst, arith}
 use Rattle.std.proofs.Math.Nat.{mul_assoc, mul-le-mul_left}
 use Rattle.std.proofs.lemmas.Nat.{div-mul-add}
-use Rattle.board.specs.Grids.{Grid, cell_count}
+use Rattle.board.specs.Shapes.{ShapeModel, cell_count}
 use Rattle.pattern_index.specs.Ranks.{ways, IsListing}
-use Rattle.pattern_index.specs.Views.{Sight, IsView}
-use Rattle.pattern_index.specs.Selections.{place_in}
+use Rattle.pattern_index.specs.Views.{ViewModel, IsView}
+use Rattle.pattern_index.specs.Groups.{place_in}
 use Rattle.pattern_index.proofs.RankLemmas.{below_in, differ_in, listing_from, rank_below, rank_differs, ways-suc}
 use Rattle.pattern_index.proofs.SightLemmas.{listing}
 
@@ -37,16 +37,16 @@ ways-quot n r le =
 pub listing_tail : (n x : ℕ) (xs : List ℕ) → IsListing n (x ∷ xs) → IsListing n xs
 listing_tail n x xs is = listing_from n xs (below_in n (x ∷ xs) is).1 (differ_in n (x ∷ xs) is).1
 
-pub place_listing : (grid : Grid) (group : List ℕ) (v : Sight) → IsView grid group v → IsListing (cell_count grid) v.cells
+pub place_listing : (grid : ShapeModel) (group : List ℕ) (v : ViewModel) → IsView grid group v → IsListing (cell_count grid) v.cells
 place_listing grid group v view = listing_tail (cell_count grid) v.blank v.cells (listing grid group v view)
 
-pub place_below : (grid : Grid) (group : List ℕ) (v : Sight) → IsView grid group v → place_in grid v < ways (cell_count grid) (length group)
+pub place_below : (grid : ShapeModel) (group : List ℕ) (v : ViewModel) → IsView grid group v → place_in grid v < ways (cell_count grid) (length group)
 place_below grid group v view =
     let is = place_listing grid group v view in
     subst (λ n. place_in grid v < ways (cell_count grid) n) view.one_each (rank_below (cell_count grid) v.cells (below_in (cell_count grid) v.cells is) (differ_in (cell_count grid) v.cells is))
 
 -- views with one place show the tiles on the same cells
-pub same_cells : (grid : Grid) (group : List ℕ) (v w : Sight) → IsView grid group v → IsView grid group w → place_in grid v ≡ place_in grid w → v.cells ≡ w.cells
+pub same_cells : (grid : ShapeModel) (group : List ℕ) (v w : ViewModel) → IsView grid group v → IsView grid group w → place_in grid v ≡ place_in grid w → v.cells ≡ w.cells
 same_cells grid group v w view other same =
     let a = place_listing grid group v view in
     let b = place_listing grid group w other in

@@ -1,18 +1,18 @@
 -- The ranks of views.
 use Rattle.std.proofs.Common.{◌≡◌, ℕ, suc, ◌<◌, ◌≤◌, List, [], ◌∷◌, length, refl, sym, ap, ◌∙◌, subst, arith}
-use Rattle.board.specs.Grids.{Grid, cell_count}
+use Rattle.board.specs.Shapes.{ShapeModel, cell_count}
 use Rattle.pattern_index.specs.Ranks.{ways, IsListing, rank_of, list_at}
-use Rattle.pattern_index.specs.Views.{Sight, IsView}
-use Rattle.pattern_index.specs.Selections.{rank_in}
+use Rattle.pattern_index.specs.Views.{ViewModel, IsView}
+use Rattle.pattern_index.specs.Groups.{rank_in}
 use Rattle.pattern_index.proofs.RankLemmas.{Below, Differ, below_in, differ_in, listing_from, rank_below, rank_differs, list_at_below, list_at_differ, length-list_at, rank_of-list_at}
 
-abbrev pub cells_of : Sight → List ℕ
+abbrev pub cells_of : ViewModel → List ℕ
 cells_of v = v.blank ∷ v.cells
 
-pub listing : (grid : Grid) (group : List ℕ) (v : Sight) → IsView grid group v → IsListing (cell_count grid) (cells_of v)
+pub listing : (grid : ShapeModel) (group : List ℕ) (v : ViewModel) → IsView grid group v → IsListing (cell_count grid) (cells_of v)
 listing grid group v view = record { in_range = view.in_range; different = view.different }
 
-pub sight_below : (grid : Grid) (group : List ℕ) (v : Sight) → IsView grid group v → rank_in grid v < ways (cell_count grid) (suc (length group))
+pub sight_below : (grid : ShapeModel) (group : List ℕ) (v : ViewModel) → IsView grid group v → rank_in grid v < ways (cell_count grid) (suc (length group))
 sight_below grid group v view =
     subst (λ n. rank_in grid v < ways (cell_count grid) (suc n)) view.one_each
     (rank_below (cell_count grid) (cells_of v) (below_in (cell_count grid) (cells_of v) (listing grid group v view)) (differ_in (cell_count grid) (cells_of v) (listing grid group v view)))
@@ -30,12 +30,12 @@ unfolding first tail
 first_and_tail [] some = absurd (omega arith)
 first_and_tail (x ∷ xs) some = refl
 
-same_sight : (v w : Sight) → cells_of v ≡ cells_of w → v ≡ w
+same_sight : (v w : ViewModel) → cells_of v ≡ cells_of w → v ≡ w
 unfolding tail first
 same_sight v w e = λ i. record { blank = first (e i); cells = tail (e i) }
 
 -- views with one rank are one view
-pub sight_from_rank : (grid : Grid) (group : List ℕ) (v w : Sight) → IsView grid group v → IsView grid group w → rank_in grid v ≡ rank_in grid w → v ≡ w
+pub sight_from_rank : (grid : ShapeModel) (group : List ℕ) (v w : ViewModel) → IsView grid group v → IsView grid group w → rank_in grid v ≡ rank_in grid w → v ≡ w
 sight_from_rank grid group v w view other same =
     let a = listing grid group v view in
     let b = listing grid group w other in
@@ -44,7 +44,7 @@ sight_from_rank grid group v w view other same =
     (ap suc (view.one_each ∙ sym other.one_each)) same)
 
 -- the list of a rank is a view
-pub sight_of_list : (grid : Grid) (group : List ℕ) (v : Sight) (k : ℕ) → suc (length group) ≤ cell_count grid → k < ways (cell_count grid) (suc (length group)) → cells_of v ≡ list_at (cell_count grid) (suc (length group)) k → IsView grid group v × (rank_in grid v ≡ k)
+pub sight_of_list : (grid : ShapeModel) (group : List ℕ) (v : ViewModel) (k : ℕ) → suc (length group) ≤ cell_count grid → k < ways (cell_count grid) (suc (length group)) → cells_of v ≡ list_at (cell_count grid) (suc (length group)) k → IsView grid group v × (rank_in grid v ≡ k)
 sight_of_list grid group v k room low is =
     let n = cell_count grid in
     let r = suc (length group) in
@@ -55,12 +55,12 @@ sight_of_list grid group v k room low is =
     (record { one_each = omega arith; in_range = made.in_range; different = made.different }, ap (rank_of n) is ∙ rank_of-list_at n r k room low)
 
 -- some view has each rank below the size
-pub sight_at : (grid : Grid) (group : List ℕ) (k : ℕ) → suc (length group) ≤ cell_count grid → k < ways (cell_count grid) (suc (length group)) → (v : Sight) × IsView grid group v × (rank_in grid v ≡ k)
+pub sight_at : (grid : ShapeModel) (group : List ℕ) (k : ℕ) → suc (length group) ≤ cell_count grid → k < ways (cell_count grid) (suc (length group)) → (v : ViewModel) × IsView grid group v × (rank_in grid v ≡ k)
 sight_at grid group k room low =
     let n = cell_count grid in
     let r = suc (length group) in
     let xs : List ℕ = list_at n r k in
-    let v : Sight = record { blank = first xs; cells = tail xs } in
+    let v : ViewModel = record { blank = first xs; cells = tail xs } in
     let long : length xs ≡ r = length-list_at n r k room in
     let is = sight_of_list grid group v k room low (first_and_tail xs (omega arith)) in
     (v, is.0, is.1)

@@ -5,7 +5,7 @@ use Rattle.std.proofs.lemmas.List.{length-map}
 use Rattle.std.proofs.lemmas.List.Elements.{recursion_from_All}
 use Rattle.std.proofs.Math.Nat.{le-max_left, mul_comm}
 use Rattle.std.proofs.lemmas.Nat.{mul-le}
-use Rattle.board.specs.Grids.{Grid, cell_count}
+use Rattle.board.specs.Shapes.{ShapeModel, cell_count}
 use Rattle.std.proofs.lemmas.Bool.{cases_eq}
 use Rattle.std.proofs.lemmas.List.{get_or-set_same, get_or-set_other, length-set}
 use Rattle.pattern_index.specs.Views.{IsView, exchanged, view_at}
@@ -14,13 +14,13 @@ use Rattle.pattern_index.proofs.PlaceLemmas.{place_listing}
 use Rattle.pattern_index.proofs.SparseLemmas.{slot-parts, sparse_small}
 
 -- the cells of some tiles are digits
-within : (grid : Grid) (tiles cells : List ℕ) → IsView grid tiles (view_at tiles cells) → All (λ cell. cell < digit_base grid) (map (slice_index cells) tiles)
+within : (grid : ShapeModel) (tiles cells : List ℕ) → IsView grid tiles (view_at tiles cells) → All (λ cell. cell < digit_base grid) (map (slice_index cells) tiles)
 within grid tiles cells view = λ k d low.
     let under = (place_listing grid tiles (view_at tiles cells) view).in_range k d low in
     let wide = le-max_left (cell_count grid) 16 in
     omega (arith, under, wide)
 
-pub under_base : (grid : Grid) (own tiles cells : List ℕ) (n : ℕ) → IsView grid own (view_at own cells) → n ≡ digit_base grid → tiles ≡ own → All (λ cell. cell < n) (map (slice_index cells) tiles)
+pub under_base : (grid : ShapeModel) (own tiles cells : List ℕ) (n : ℕ) → IsView grid own (view_at own cells) → n ≡ digit_base grid → tiles ≡ own → All (λ cell. cell < n) (map (slice_index cells) tiles)
 under_base grid own tiles cells n view base same =
     subst (λ m. All (λ cell. cell < m) (map (slice_index cells) tiles)) (sym base)
     (subst (λ (ts : List ℕ). All (λ cell. cell < digit_base grid) (map (slice_index cells) ts)) (sym same) (within grid own cells view))
@@ -33,7 +33,7 @@ module _ (n sparse : ℕ) (tiles cells : List ℕ) (is : sparse ≡ sparse_of n 
       mul-le sparse n 3814697265625 25 (omega (arith, is, small)) few
 
 -- the slot in parts
-pub whole : (grid : Grid) (n sparse : ℕ) (tiles own cells : List ℕ) → n ≡ digit_base grid → tiles ≡ own → sparse ≡ sparse_of n (map (slice_index cells) tiles) → sparse * n + slice_index cells 0 ≡ slot_in grid (view_at own cells)
+pub whole : (grid : ShapeModel) (n sparse : ℕ) (tiles own cells : List ℕ) → n ≡ digit_base grid → tiles ≡ own → sparse ≡ sparse_of n (map (slice_index cells) tiles) → sparse * n + slice_index cells 0 ≡ slot_in grid (view_at own cells)
 whole grid n sparse tiles own cells base same is =
     let e : sparse ≡ sparse_of (digit_base grid) (map (slice_index cells) own) = is ∙ (λ i. sparse_of (base i) (map (slice_index cells) (same i))) in
     let m : sparse * n ≡ digit_base grid * sparse_of (digit_base grid) (map (slice_index cells) own) = (λ i. e i * base i) ∙ mul_comm (sparse_of (digit_base grid) (map (slice_index cells) own)) (digit_base grid) in

@@ -7,10 +7,10 @@ use Rattle.std.specs.List.{AllByRecursion}
 use Rattle.std.proofs.lemmas.Bool.{cond-false, cond-true, ne_eqb, eq-eqb, cases_eq, cases_Bool}
 use Rattle.std.proofs.lemmas.Nat.{div-mul-add, mod-mul-add, mod_below}
 use Rattle.std.proofs.Math.Nat.{mul_assoc, mul_comm, mul-le-mul_left, pow-le-pow_left, pow-le-pow_right, pow-zero, pow-succ', one-le-pow, le-max_left}
-use Rattle.pattern_index.specs.Selections.{Selection}
+use Rattle.pattern_index.specs.Groups.{GroupModel}
 use Rattle.pattern_index.specs.Sparse.{sparse_of, digits_in, stride_of, sparse_in, digit_base, slot_in, slot_count_of}
-use Rattle.board.specs.Grids.{Grid, cell_count}
-use Rattle.pattern_index.specs.Views.{Sight, IsView}
+use Rattle.board.specs.Shapes.{ShapeModel, cell_count}
+use Rattle.pattern_index.specs.Views.{ViewModel, IsView}
 use Rattle.pattern_index.proofs.RankLemmas.{Other, Below, Differ, below_in}
 use Rattle.pattern_index.proofs.PlaceLemmas.{place_listing}
 
@@ -69,7 +69,7 @@ written n count number array digits room are =
     take_at digits (drop count array) count (ap length is ∙ length-digits n count number) ∙ is
 
 -- the digits of a view's sparse place are its cells
-pub view_digits : (grid : Grid) (tiles : List ℕ) (v : Sight) (sparse : ℕ) → IsView grid tiles v → sparse_in grid v ≡ sparse → digits_in (cell_count grid) (length tiles) sparse ≡ v.cells
+pub view_digits : (grid : ShapeModel) (tiles : List ℕ) (v : ViewModel) (sparse : ℕ) → IsView grid tiles v → sparse_in grid v ≡ sparse → digits_in (cell_count grid) (length tiles) sparse ≡ v.cells
 view_digits grid tiles v sparse view is =
     (λ i. digits_in (cell_count grid) (sym view.one_each i) (sym is i)) ∙ digits_back (cell_count grid) v.cells (below_in (cell_count grid) v.cells (place_listing grid tiles v view))
 
@@ -257,15 +257,15 @@ module _ (n : ℕ) (cells : List ℕ) (place sparse : ℕ) (some : 0 < place) (w
 -- ---- slots
 
 -- the cells of a view are digits of its slot
-pub slot_digits : (grid : Grid) (tiles : List ℕ) (v : Sight) → IsView grid tiles v → Below (digit_base grid) (v.blank ∷ v.cells)
+pub slot_digits : (grid : ShapeModel) (tiles : List ℕ) (v : ViewModel) → IsView grid tiles v → Below (digit_base grid) (v.blank ∷ v.cells)
 slot_digits grid tiles v view =
     recursion_from_All (λ cell. cell < digit_base grid) (v.blank ∷ v.cells)
     (λ k d low. let under = view.in_range k d low in let wide = le-max_left (cell_count grid) 16 in omega (arith, under, wide))
 
-pub slot_below : (g : Selection) (v : Sight) → IsView g.grid g.tiles v → slot_in g.grid v < slot_count_of g
+pub slot_below : (g : GroupModel) (v : ViewModel) → IsView g.grid g.tiles v → slot_in g.grid v < slot_count_of g
 slot_below g v view = subst (λ k. slot_in g.grid v < digit_base g.grid ^ suc k) view.one_each (sparse_below (digit_base g.grid) (v.blank ∷ v.cells) (slot_digits g.grid g.tiles v view))
 
-pub slots_differ : (g : Selection) (v w : Sight) → IsView g.grid g.tiles v → IsView g.grid g.tiles w → slot_in g.grid v ≡ slot_in g.grid w → v ≡ w
+pub slots_differ : (g : GroupModel) (v w : ViewModel) → IsView g.grid g.tiles v → IsView g.grid g.tiles w → slot_in g.grid v ≡ slot_in g.grid w → v ≡ w
 slots_differ g v w view other same = λ i. record { blank = get_or (one i) 0 0; cells = drop 1 (one i) }
   where
     one : v.blank ∷ v.cells ≡ w.blank ∷ w.cells

@@ -4,8 +4,8 @@ use Rattle.std.specs.Prelude.{◌↔◌, All, Contains, IsTrue}
 use Rattle.std.proofs.lemmas.Bool.{false≢true}
 use Rattle.std.proofs.lemmas.List.{take_more, get_or-take, get_or_default, length-take-le}
 use Rattle.std.proofs.lemmas.List.Quantifiers.{all_pairs_push}
-use Rattle.pattern_index.specs.Selections.{Selection}
-use Rattle.pattern_index.specs.Splits.{AreApart, ShareNoTile}
+use Rattle.pattern_index.specs.Groups.{GroupModel}
+use Rattle.pattern_index.specs.Partitions.{AreApart, ShareNoTile}
 
 pub test_failed : {P : Type 0} → (P → ⊥) → IsTrue false ↔ P
 test_failed none = ((λ h. absurd (false≢true h)), (λ p. absurd (none p)))
@@ -21,25 +21,25 @@ pub apart_lists : (xs ys : List ℕ) → ((k : ℕ) → k < length xs → Contai
 apart_lists xs ys none tile in_xs in_ys = none in_xs.0 in_xs.1 (subst (λ t. Contains ys t) (sym (get_or_default xs in_xs.0 0 tile in_xs.1 ∙ in_xs.2)) in_ys)
 
 -- what a test says of a group that is known by its tiles
-pub of_group : (xs : List ℕ) (g : Selection) (tiles : List ℕ) (b : Bool) → xs ≡ g.tiles → IsTrue b ↔ ShareNoTile xs tiles → IsTrue b ↔ ShareNoTile g.tiles tiles
+pub of_group : (xs : List ℕ) (g : GroupModel) (tiles : List ℕ) (b : Bool) → xs ≡ g.tiles → IsTrue b ↔ ShareNoTile xs tiles → IsTrue b ↔ ShareNoTile g.tiles tiles
 of_group xs g tiles b e test = subst (λ ts. IsTrue b ↔ ShareNoTile ts tiles) e test
 
-pub of_items : (xs groups : List Selection) (b : Bool) → xs ≡ groups → IsTrue b ↔ AreApart xs → IsTrue b ↔ AreApart groups
-of_items xs groups b e test = subst (λ (gs : List Selection). IsTrue b ↔ AreApart gs) e test
+pub of_items : (xs groups : List GroupModel) (b : Bool) → xs ≡ groups → IsTrue b ↔ AreApart xs → IsTrue b ↔ AreApart groups
+of_items xs groups b e test = subst (λ (gs : List GroupModel). IsTrue b ↔ AreApart gs) e test
 
-pub of_tiles : (groups : List Selection) (i : ℕ) (xs : List ℕ) (g : Selection) (b : Bool) → xs ≡ g.tiles → IsTrue b ↔ All (λ h. ShareNoTile h.tiles xs) (take i groups) → IsTrue b ↔ All (λ h. ShareNoTile h.tiles g.tiles) (take i groups)
+pub of_tiles : (groups : List GroupModel) (i : ℕ) (xs : List ℕ) (g : GroupModel) (b : Bool) → xs ≡ g.tiles → IsTrue b ↔ All (λ h. ShareNoTile h.tiles xs) (take i groups) → IsTrue b ↔ All (λ h. ShareNoTile h.tiles g.tiles) (take i groups)
 of_tiles groups i xs g b e test = subst (λ (ts : List ℕ). IsTrue b ↔ All (λ h. ShareNoTile h.tiles ts) (take i groups)) e test
 
-pub apart_more : (groups : List Selection) (i : ℕ) (g : Selection) → i < length groups → g ≡ get_or groups i g → All (λ h. ShareNoTile h.tiles g.tiles) (take i groups) → AreApart (take i groups) → AreApart (take (i + 1) groups)
+pub apart_more : (groups : List GroupModel) (i : ℕ) (g : GroupModel) → i < length groups → g ≡ get_or groups i g → All (λ h. ShareNoTile h.tiles g.tiles) (take i groups) → AreApart (take i groups) → AreApart (take (i + 1) groups)
 apart_more groups i g i_in is all apart =
-    subst (λ (gs : List Selection). AreApart gs) (sym (take_more groups i g i_in))
-    (all_pairs_push (λ (x y : Selection). ShareNoTile x.tiles y.tiles) (take i groups) (get_or groups i g) apart
-    (λ k d k_in. subst (λ (y : Selection). ShareNoTile (get_or (take i groups) k d).tiles y.tiles) is (all k d k_in)))
+    subst (λ (gs : List GroupModel). AreApart gs) (sym (take_more groups i g i_in))
+    (all_pairs_push (λ (x y : GroupModel). ShareNoTile x.tiles y.tiles) (take i groups) (get_or groups i g) apart
+    (λ k d k_in. subst (λ (y : GroupModel). ShareNoTile (get_or (take i groups) k d).tiles y.tiles) is (all k d k_in)))
 
-pub apart_before : (groups : List Selection) (i : ℕ) (g : Selection) → i < length groups → g ≡ get_or groups i g → AreApart groups → All (λ h. ShareNoTile h.tiles g.tiles) (take i groups)
+pub apart_before : (groups : List GroupModel) (i : ℕ) (g : GroupModel) → i < length groups → g ≡ get_or groups i g → AreApart groups → All (λ h. ShareNoTile h.tiles g.tiles) (take i groups)
 apart_before groups i g i_in is apart k d k_in =
     let front = length-take-le i groups (omega arith) in
     let low : k < i = omega arith in
     let same : get_or (take i groups) k d ≡ get_or groups k d = get_or-take i groups k d low in
     let other : get_or groups i d ≡ g = get_or_default groups i d g i_in ∙ sym is in
-    subst (λ (x : Selection). ShareNoTile x.tiles g.tiles) (sym same) (subst (λ (y : Selection). ShareNoTile (get_or groups k d).tiles y.tiles) other (apart k i d low i_in))
+    subst (λ (x : GroupModel). ShareNoTile x.tiles g.tiles) (sym same) (subst (λ (y : GroupModel). ShareNoTile (get_or groups k d).tiles y.tiles) other (apart k i d low i_in))

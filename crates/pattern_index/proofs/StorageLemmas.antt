@@ -6,8 +6,8 @@ use Rattle.std.specs.List.{AllByRecursion}
 use Rattle.std.specs.Str.{bytes_eq}
 use Rattle.std.proofs.lemmas.Bool.{cases_eq, cases_lt}
 use Rattle.std.proofs.lemmas.List.{get_or-set_same, get_or-set_other, length-append, length-replicate, drop-replicate, take_at, drop_at}
-use Rattle.board.specs.Grids.{cell_count}
-use Rattle.board.specs.Positions.{Position, IsBoard, cell_of}
+use Rattle.board.specs.Shapes.{cell_count}
+use Rattle.board.specs.Boards.{BoardModel, IsBoard, cell_of}
 use Rattle.board.proofs.TileLemmas.{cell_is, has_cell}
 use Rattle.board.proofs.StorageLemmas.{same_stored}
 use Rattle.pattern_index.specs.Packing.{sight_in, view_storage, IsStoredView, view_storage-sight_in}
@@ -20,7 +20,7 @@ same_view a b r stored stored' counts =
     (λ e i. record { blank = slice_index (e i) 0; cells = drop 1 (take (counts i) (e i)) })
 
 -- the cell of one more number is known
-pub met_more : (b : Position) (tiles cells : List ℕ) (cell : ℕ) → IsBoard b → tiles ≡ b.tiles → cell < length tiles → cell_count b.grid ≤ length cells → ((number : ℕ) → number < cell_count b.grid → cell_of b number < cell → get_or cells number 0 ≡ cell_of b number) → (number : ℕ) → number < cell_count b.grid → cell_of b number < cell + 1 → get_or (set cells (get_or tiles cell 0) cell) number 0 ≡ cell_of b number
+pub met_more : (b : BoardModel) (tiles cells : List ℕ) (cell : ℕ) → IsBoard b → tiles ≡ b.tiles → cell < length tiles → cell_count b.grid ≤ length cells → ((number : ℕ) → number < cell_count b.grid → cell_of b number < cell → get_or cells number 0 ≡ cell_of b number) → (number : ℕ) → number < cell_count b.grid → cell_of b number < cell + 1 → get_or (set cells (get_or tiles cell 0) cell) number 0 ≡ cell_of b number
 met_more b tiles cells cell board is cell_in room met number number_in low =
     let tile : ℕ = get_or tiles cell 0 in
     let holds : get_or b.tiles cell 0 ≡ tile = ap (λ (ts : List ℕ). get_or ts cell 0) (sym is) in
@@ -37,7 +37,7 @@ met_more b tiles cells cell board is cell_in room met number number_in low =
     less x y lt ne = ⊎_elim (λ (h : x < y). h) (λ (h : y ≤ x). absurd (ne (omega arith))) (cases_lt x y)
 
 -- a number that the board doesn't have has no cell
-pub met_no_other : (b : Position) (tiles cells : List ℕ) (cell : ℕ) → IsBoard b → tiles ≡ b.tiles → cell < length tiles → ((number : ℕ) → cell_count b.grid ≤ number → get_or cells number 0 ≡ 0) → (number : ℕ) → cell_count b.grid ≤ number → get_or (set cells (get_or tiles cell 0) cell) number 0 ≡ 0
+pub met_no_other : (b : BoardModel) (tiles cells : List ℕ) (cell : ℕ) → IsBoard b → tiles ≡ b.tiles → cell < length tiles → ((number : ℕ) → cell_count b.grid ≤ number → get_or cells number 0 ≡ 0) → (number : ℕ) → cell_count b.grid ≤ number → get_or (set cells (get_or tiles cell 0) cell) number 0 ≡ 0
 met_no_other b tiles cells cell board is cell_in others number high =
     let tile : ℕ = get_or tiles cell 0 in
     let holds : get_or b.tiles cell 0 ≡ tile = ap (λ (ts : List ℕ). get_or ts cell 0) (sym is) in
@@ -86,6 +86,6 @@ zeros_behind n = drop-replicate (n + 1 - 1) 9 0 ∙ ap (λ (k : ℕ). replicate 
     same k = omega arith
 
 -- cells that were looked up are the board's
-pub looked_up : (b : Position) (cells tiles : List ℕ) → ((number : ℕ) → number < cell_count b.grid → get_or cells number 0 ≡ cell_of b number) → AllByRecursion (λ tile. tile < cell_count b.grid) tiles → map (slice_index cells) tiles ≡ map (cell_of b) tiles
+pub looked_up : (b : BoardModel) (cells tiles : List ℕ) → ((number : ℕ) → number < cell_count b.grid → get_or cells number 0 ≡ cell_of b number) → AllByRecursion (λ tile. tile < cell_count b.grid) tiles → map (slice_index cells) tiles ≡ map (cell_of b) tiles
 looked_up b cells [] known low = refl
 looked_up b cells (t ∷ tiles) known low = λ i. known t low.0 i ∷ looked_up b cells tiles known low.1 i

@@ -8,25 +8,25 @@ use Rattle.std.proofs.lemmas.List.{length-map, get_or-map}
 use Rattle.std.proofs.lemmas.List.Elements.{recursion_from_All, All-from_recursion}
 use Rattle.board.specs.declared.moves.Move.{Move}
 use Rattle.board.specs.declared.moves.Move.TheVariants.{U, L, R, D}
-use Rattle.board.specs.Grids.{Grid, cell_count}
+use Rattle.board.specs.Shapes.{ShapeModel, cell_count}
 use Rattle.board.specs.Neighbours.{LiesTowards, neighbour, opposite}
-use Rattle.board.specs.Positions.{Position, IsBoard, cell_of, blank_of}
-use Rattle.board.specs.CostRules.{CostRule, weight_of}
+use Rattle.board.specs.Boards.{BoardModel, IsBoard, cell_of, blank_of}
+use Rattle.board.specs.Weights.{WeightsModel, weight_of}
 use Rattle.board.specs.Moves.{Moves}
 use Rattle.board.proofs.TileLemmas.{same_place, all_differ, cell_is, has_cell}
 use Rattle.board.proofs.MoveLemmas.{exchange, cell_of-exchange, blank_after, other_cell, cell_below, one_cell}
 use Rattle.board.proofs.NeighbourLemmas.{neighbour_lies, cells_above}
-use Rattle.pattern_index.specs.Views.{Sight, IsView, Abstraction, ViewMoves, ViewLeads, view_of, weight_on}
-use Rattle.pattern_index.specs.Selections.{IsTile, IsGroup, sight_successor_at, sight_successor}
+use Rattle.pattern_index.specs.Views.{ViewModel, IsView, Abstraction, ViewMoves, ViewLeads, view_of, weight_on}
+use Rattle.pattern_index.specs.Groups.{IsTile, AreGroupTiles, view_successor_at, view_successor}
 use Rattle.pattern_index.proofs.RankLemmas.{Below, Differ, Other, pairs_from_differ, differ_from_pairs}
 use Rattle.pattern_index.proofs.SightLemmas.{cells_of}
 
-some_move : (a : Abstraction) (v : Sight) (o : Option ℕ) (v' : Sight) (c : ℕ) → option_map (sight_successor_at a v) o ≡ Some (v', c) → (cell : ℕ) × (o ≡ Some cell) × (sight_successor_at a v cell ≡ (v', c))
+some_move : (a : Abstraction) (v : ViewModel) (o : Option ℕ) (v' : ViewModel) (c : ℕ) → option_map (view_successor_at a v) o ≡ Some (v', c) → (cell : ℕ) × (o ≡ Some cell) × (view_successor_at a v cell ≡ (v', c))
 some_move a v None v' c is = cc
 some_move a v (Some cell) v' c is = (cell, refl, cc)
 
 -- what is computed of a view's move is what it does
-pub successor_of_sight : (a : Abstraction) (v : Sight) (m : Move) (v' : Sight) (c : ℕ) → v.blank < cell_count a.grid → (sight_successor a v m ≡ Some (v', c)) ↔ ViewMoves a v m v' c
+pub successor_of_sight : (a : Abstraction) (v : ViewModel) (m : Move) (v' : ViewModel) (c : ℕ) → v.blank < cell_count a.grid → (view_successor a v m ≡ Some (v', c)) ↔ ViewMoves a v m v' c
 successor_of_sight a v m v' c inside = (
   (λ is.
       let h = some_move a v (neighbour a.grid m v.blank) v' c is in
@@ -40,12 +40,12 @@ successor_of_sight a v m v' c inside = (
 )
 
 -- and so an answer that is the move computed
-pub sight_moves_from : (a : Abstraction) (v : Sight) (m : Move) (answer : Option (Sight × ℕ)) → v.blank < cell_count a.grid → answer ≡ sight_successor a v m → (v' : Sight) (c : ℕ) → (answer ≡ Some (v', c)) ↔ ViewMoves a v m v' c
+pub sight_moves_from : (a : Abstraction) (v : ViewModel) (m : Move) (answer : Option (ViewModel × ℕ)) → v.blank < cell_count a.grid → answer ≡ view_successor a v m → (v' : ViewModel) (c : ℕ) → (answer ≡ Some (v', c)) ↔ ViewMoves a v m v' c
 sight_moves_from a v m answer inside is v' c =
     let moves = successor_of_sight a v m v' c inside in ((λ e. moves.0 (sym is ∙ e)), (λ h. is ∙ moves.1 h))
 
 -- the other way round
-pub lies_back : (grid : Grid) (m : Move) (from to : ℕ) → from < cell_count grid → LiesTowards grid m from to → LiesTowards grid (opposite m) to from
+pub lies_back : (grid : ShapeModel) (m : Move) (from to : ℕ) → from < cell_count grid → LiesTowards grid m from to → LiesTowards grid (opposite m) to from
 lies_back grid U from to inside lies = (inside, omega (arith, lies.1), sym lies.2)
 lies_back grid L from to inside lies = (inside, sym lies.1, omega (arith, lies.2))
 lies_back grid R from to inside lies = (inside, sym lies.1, omega (arith, lies.2))
@@ -95,7 +95,7 @@ all_put_below : (n from to : ℕ) (xs : List ℕ) → from < n → Below n xs �
 all_put_below n from to [] lt below = tt
 all_put_below n from to (x ∷ xs) lt below = (put_below n from to x lt below.0, all_put_below n from to xs lt below.1)
 
-weight_put : (rule : CostRule) (group cells : List ℕ) (from to : ℕ) → Other from cells → weight_on rule group (map (put from to) cells) from ≡ weight_on rule group cells to
+weight_put : (rule : WeightsModel) (group cells : List ℕ) (from to : ℕ) → Other from cells → weight_on rule group (map (put from to) cells) from ≡ weight_on rule group cells to
 weight_put rule [] cells from to other = refl
 weight_put rule (tile ∷ group) [] from to other = refl
 weight_put rule (tile ∷ group) (x ∷ cells) from to other =
@@ -103,10 +103,10 @@ weight_put rule (tile ∷ group) (x ∷ cells) from to other =
     let rest = weight_put rule group cells from to other.1 in
     λ i. cond (same i) (weight_of rule tile) (rest i)
 
-pub blank_inside : (grid : Grid) (group : List ℕ) (v : Sight) → IsView grid group v → v.blank < cell_count grid
+pub blank_inside : (grid : ShapeModel) (group : List ℕ) (v : ViewModel) → IsView grid group v → v.blank < cell_count grid
 blank_inside grid group v view = view.in_range 0 0 (omega arith)
 
-module _ (a : Abstraction) (v : Sight) (m : Move) (v' : Sight) (c : ℕ) (view : IsView a.grid a.tiles v) (moves : ViewMoves a v m v' c) where
+module _ (a : Abstraction) (v : ViewModel) (m : Move) (v' : ViewModel) (c : ℕ) (view : IsView a.grid a.tiles v) (moves : ViewMoves a v m v' c) where
   differ : Differ (cells_of v)
   differ = differ_from_pairs (cells_of v) view.different
 
@@ -142,25 +142,25 @@ module _ (a : Abstraction) (v : Sight) (m : Move) (v' : Sight) (c : ℕ) (view :
 -- ---- views of boards
 
 -- a tile does not stand where the blank is
-not_blank : (b : Position) → IsBoard b → (t : ℕ) → IsTile b.grid t → cell_of b t ≢ blank_of b
+not_blank : (b : BoardModel) → IsBoard b → (t : ℕ) → IsTile b.grid t → cell_of b t ≢ blank_of b
 not_blank b board t tile same =
     let at = has_cell b board t tile.1 in
     let blank = has_cell b board 0 (cells_above b.grid board.sides) in
     let none : t ≡ 0 = sym at.1 ∙ ap (λ k. get_or b.tiles k 0) same ∙ blank.1 in
     omega (arith, tile.0)
 
-cell_after : (b : Position) → IsBoard b → (to : ℕ) → to < cell_count b.grid → (t : ℕ) → IsTile b.grid t → cell_of (exchange b (blank_of b) to) t ≡ cond (eqb (cell_of b t) to) (blank_of b) (cell_of b t)
+cell_after : (b : BoardModel) → IsBoard b → (to : ℕ) → to < cell_count b.grid → (t : ℕ) → IsTile b.grid t → cell_of (exchange b (blank_of b) to) t ≡ cond (eqb (cell_of b t) to) (blank_of b) (cell_of b t)
 cell_after b board to to_below t tile =
     let blank = has_cell b board 0 (cells_above b.grid board.sides) in
     cell_of-exchange b (blank_of b) to board blank.0 to_below t tile.1
     ∙ cond-false (eqb (cell_of b t) (blank_of b)) to _ (ne_eqb _ _ (not_blank b board t tile))
 
-cells_after : (b : Position) → IsBoard b → (to : ℕ) → to < cell_count b.grid → (group : List ℕ) → AllByRecursion (IsTile b.grid) group → map (cell_of (exchange b (blank_of b) to)) group ≡ map (λ cell. cond (eqb cell to) (blank_of b) cell) (map (cell_of b) group)
+cells_after : (b : BoardModel) → IsBoard b → (to : ℕ) → to < cell_count b.grid → (group : List ℕ) → AllByRecursion (IsTile b.grid) group → map (cell_of (exchange b (blank_of b) to)) group ≡ map (λ cell. cond (eqb cell to) (blank_of b) cell) (map (cell_of b) group)
 cells_after b board to to_below [] tiles = refl
 cells_after b board to to_below (t ∷ group) tiles = λ i. cell_after b board to to_below t tiles.0 i ∷ cells_after b board to to_below group tiles.1 i
 
 -- what a group sees of a board is a view
-pub board_view : (group : List ℕ) (b : Position) → IsBoard b → IsGroup b.grid group → IsView b.grid group (view_of group b)
+pub board_view : (group : List ℕ) (b : BoardModel) → IsBoard b → AreGroupTiles b.grid group → IsView b.grid group (view_of group b)
 board_view group b board is_group = record {
   one_each = length-map group (cell_of b);
   in_range = All-from_recursion (λ cell. cell < cell_count b.grid) (blank_of b ∷ map (cell_of b) group) ((has_cell b board 0 some).0, in_grid group (recursion_from_All (IsTile b.grid) group is_group.tiles));
@@ -204,7 +204,7 @@ Contains-rest : (x y : ℕ) (xs : List ℕ) → Contains (x ∷ xs) y → x ≢ 
 Contains-rest x y xs (zero, within, is) ne = absurd (ne is)
 Contains-rest x y xs (suc k, within, is) ne = (k, omega (arith, within), is)
 
-module _ (rule : CostRule) (b : Position) (board : IsBoard b) (to : ℕ) (to_below : to < cell_count b.grid) where
+module _ (rule : WeightsModel) (b : BoardModel) (board : IsBoard b) (to : ℕ) (to_below : to < cell_count b.grid) where
   -- the tile that stands on a cell
   stands : (t : ℕ) → IsTile b.grid t → eqb (cell_of b t) to ≡ true → t ≡ get_or b.tiles to 0
   stands t tile here = sym (has_cell b board t tile.1).1 ∙ ap (λ k. get_or b.tiles k 0) (eqb-true _ _ here)
@@ -230,7 +230,7 @@ module _ (rule : CostRule) (b : Position) (board : IsBoard b) (to : ℕ) (to_bel
       (cases_Bool (eqb (cell_of b t) to))
 
 -- a move of a board is a view move of what a group sees
-pub seen_move : (rule : CostRule) (group : List ℕ) (b : Position) (m : Move) (b' : Position) (c : ℕ) → IsBoard b → IsGroup b.grid group → Moves rule b m b' c → (seen : ℕ) × ViewMoves (record { grid = b.grid; rule = rule; tiles = group }) (view_of group b) m (view_of group b') seen × (Contains group (get_or b.tiles (blank_of b') 0) → seen ≡ c) × (¬ Contains group (get_or b.tiles (blank_of b') 0) → seen ≡ 0)
+pub seen_move : (rule : WeightsModel) (group : List ℕ) (b : BoardModel) (m : Move) (b' : BoardModel) (c : ℕ) → IsBoard b → AreGroupTiles b.grid group → Moves rule b m b' c → (seen : ℕ) × ViewMoves (record { grid = b.grid; rule = rule; tiles = group }) (view_of group b) m (view_of group b') seen × (Contains group (get_or b.tiles (blank_of b') 0) → seen ≡ c) × (¬ Contains group (get_or b.tiles (blank_of b') 0) → seen ≡ 0)
 seen_move rule group b m b' c board is_group moves =
     let to = moves.cell in
     let tiles = recursion_from_All (IsTile b.grid) group is_group.tiles in
@@ -248,16 +248,16 @@ seen_move rule group b m b' c board is_group moves =
     )
 
 -- a view's move leads to one view, at one cost
-pub one_view_move : (a : Abstraction) (v : Sight) (m : Move) (v' v'' : Sight) (c d : ℕ) → ViewMoves a v m v' c → ViewMoves a v m v'' d → (v'' ≡ v') × (d ≡ c)
+pub one_view_move : (a : Abstraction) (v : ViewModel) (m : Move) (v' v'' : ViewModel) (c d : ℕ) → ViewMoves a v m v' c → ViewMoves a v m v'' d → (v'' ≡ v') × (d ≡ c)
 one_view_move a v m v' v'' c d first second =
     let same : v''.blank ≡ v'.blank = one_cell a.grid m v.blank v'.blank v''.blank first.towards second.towards in
     let cells : v''.cells ≡ v'.cells = second.exchanged ∙ ap (λ (to : ℕ). map (λ cell. if cell == to then v.blank else cell) v.cells) same ∙ sym first.exchanged in
     ((λ i. record { blank = same i; cells = cells i }), second.cost ∙ ap (weight_on a.rule a.tiles v.cells) same ∙ sym first.cost)
 
 -- a view plan leads to one view, at one cost
-pub one_view_end : (a : Abstraction) (v : Sight) (plan : List Move) (w w' : Sight) (j k : ℕ) → ViewLeads a v plan w j → ViewLeads a v plan w' k → (w' ≡ w) × (k ≡ j)
+pub one_view_end : (a : Abstraction) (v : ViewModel) (plan : List Move) (w w' : ViewModel) (j k : ℕ) → ViewLeads a v plan w j → ViewLeads a v plan w' k → (w' ≡ w) × (k ≡ j)
 one_view_end a v [] w w' j k first second = (second.0 ∙ sym first.0, second.1 ∙ sym first.1)
 one_view_end a v (m ∷ plan) w w' j k first second =
     let one = one_view_move a v m first.0 second.0 first.1 second.1 first.3 second.3 in
-    let rest = one_view_end a first.0 plan w w' first.2 second.2 first.4 (subst (λ (x : Sight). ViewLeads a x plan w' second.2) one.0 second.4) in
+    let rest = one_view_end a first.0 plan w w' first.2 second.2 first.4 (subst (λ (x : ViewModel). ViewLeads a x plan w' second.2) one.0 second.4) in
     (rest.0, omega (arith, first.5, second.5, one.1, rest.1))

@@ -1,26 +1,26 @@
 -- Why numbers make no group, and the codes of the faults of groups and of partitions.
 use Rattle.std.specs.Prelude.{ℕ, ◌≡◌, ◌≢◌, ◌<◌, List, [], length, take, Contains, slice_index, codes}
-use Rattle.board.specs.Grids.{Grid}
+use Rattle.board.specs.Shapes.{ShapeModel}
 use Rattle.pattern_index.specs.declared.group.TheConstants.{MAX_SIZE}
-use Rattle.pattern_index.specs.Selections.{IsTile, IsGroup, size_of}
+use Rattle.pattern_index.specs.Groups.{IsTile, AreGroupTiles, size_of}
 use Rattle.pattern_index.specs.declared.faults.GroupFault.{GroupFault}
 use Rattle.pattern_index.specs.declared.faults.GroupFault.TheVariants.{Empty, NotATile, Repeated, TooManyViews}
 use Rattle.pattern_index.specs.declared.faults.PartitionFault.{PartitionFault}
 use Rattle.pattern_index.specs.declared.faults.PartitionFault.TheVariants.{SharedTile, TooManyGroups}
 
 -- there is a number at this place, and none before it is at fault
-pub record IsFirstPlace (grid : Grid) (numbers : List ℕ) (place : ℕ) : Type 0 where
+pub record IsFirstGroupPlace (grid : ShapeModel) (numbers : List ℕ) (place : ℕ) : Type 0 where
   pub within : place < length numbers
-  pub before : IsGroup grid (take place numbers)
+  pub before : AreGroupTiles grid (take place numbers)
 
 -- the first fault of numbers that should be the tiles of a group: that there are none, else that of the first
 -- offending place, else the count of views
-abbrev pub IsFirstFault : Grid → List ℕ → GroupFault → Type 0
-IsFirstFault grid numbers Empty = numbers ≡ []
-IsFirstFault grid numbers NotATile = (place : ℕ) × IsFirstPlace grid numbers place × (¬ IsTile grid (slice_index numbers place))
-IsFirstFault grid numbers Repeated =
-    (place : ℕ) × IsFirstPlace grid numbers place × IsTile grid (slice_index numbers place) × Contains (take place numbers) (slice_index numbers place)
-IsFirstFault grid numbers TooManyViews = (numbers ≢ []) × IsGroup grid numbers × (MAX_SIZE < size_of (record { grid = grid; tiles = numbers }))
+abbrev pub IsFirstGroupFault : ShapeModel → List ℕ → GroupFault → Type 0
+IsFirstGroupFault grid numbers Empty = numbers ≡ []
+IsFirstGroupFault grid numbers NotATile = (place : ℕ) × IsFirstGroupPlace grid numbers place × (¬ IsTile grid (slice_index numbers place))
+IsFirstGroupFault grid numbers Repeated =
+    (place : ℕ) × IsFirstGroupPlace grid numbers place × IsTile grid (slice_index numbers place) × Contains (take place numbers) (slice_index numbers place)
+IsFirstGroupFault grid numbers TooManyViews = (numbers ≢ []) × AreGroupTiles grid numbers × (MAX_SIZE < size_of (record { grid = grid; tiles = numbers }))
 
 -- the code that a fault of a group is reported by
 abbrev pub group_code : GroupFault → List ℕ

@@ -1,15 +1,15 @@
 -- The laws of the definitions. Each is the contract of a function that does nothing.
 use Rattle.std.specs.Prelude.{ℕ, zero, suc, ◌≡◌, ◌≢◌, ◌↔◌, ◌+◌, ◌-◌, ◌*◌, ◌/◌, ◌^◌, ◌<◌, ◌≤◌, List, ◌∷◌, length, max, Some, Contains, slice_index}
 use Rattle.board.specs.declared.moves.Move.{Move}
-use Rattle.board.specs.Grids.{Grid, cell_count}
+use Rattle.board.specs.Shapes.{ShapeModel, cell_count}
 use Rattle.board.specs.Neighbours.{opposite}
-use Rattle.board.specs.Positions.{Position, IsBoard, blank_of}
-use Rattle.board.specs.CostRules.{CostRule}
+use Rattle.board.specs.Boards.{BoardModel, IsBoard, blank_of}
+use Rattle.board.specs.Weights.{WeightsModel}
 use Rattle.board.specs.Keys.{Precedes}
 use Rattle.board.specs.Moves.{Moves}
 use Rattle.pattern_index.specs.Ranks.{ways, IsListing, rank_of}
-use Rattle.pattern_index.specs.Views.{Sight, IsView, Abstraction, ViewMoves, ViewLeads, view_of, view_at}
-use Rattle.pattern_index.specs.Selections.{Selection, IsSelection, IsGroup, rank_in, size_of, place_in, folded_size_of, sight_successor}
+use Rattle.pattern_index.specs.Views.{ViewModel, IsView, Abstraction, ViewMoves, ViewLeads, view_of, view_at}
+use Rattle.pattern_index.specs.Groups.{GroupModel, IsGroup, AreGroupTiles, rank_in, size_of, place_in, folded_size_of, view_successor}
 use Rattle.pattern_index.specs.Sparse.{slot_count_of, slot_in, sparse_in, sparse_of, sparse_size_of, stride_of}
 
 -- n!, the numbers from 1 to n multiplied
@@ -40,73 +40,73 @@ RanksAreInOrder =
 
 -- a group has 9 tiles at most, and there is a cell for the blank and for each of them
 abbrev pub GroupsAreSmall : Type 0
-GroupsAreSmall = (g : Selection) → IsSelection g → (length g.tiles ≤ 9) × (suc (length g.tiles) ≤ cell_count g.grid)
+GroupsAreSmall = (g : GroupModel) → IsGroup g → (length g.tiles ≤ 9) × (suc (length g.tiles) ≤ cell_count g.grid)
 
 -- the rank of a group's view is below the group's size
 abbrev pub ViewRanksAreBelow : Type 0
-ViewRanksAreBelow = (g : Selection) (v : Sight) → IsView g.grid g.tiles v → rank_in g.grid v < size_of g
+ViewRanksAreBelow = (g : GroupModel) (v : ViewModel) → IsView g.grid g.tiles v → rank_in g.grid v < size_of g
 
 -- views of a group with one rank are one view
 abbrev pub ViewRanksDiffer : Type 0
-ViewRanksDiffer = (g : Selection) (v w : Sight) → IsView g.grid g.tiles v → IsView g.grid g.tiles w → rank_in g.grid v ≡ rank_in g.grid w → v ≡ w
+ViewRanksDiffer = (g : GroupModel) (v w : ViewModel) → IsView g.grid g.tiles v → IsView g.grid g.tiles w → rank_in g.grid v ≡ rank_in g.grid w → v ≡ w
 
 -- each number below a group's size is the rank of one of its views
 abbrev pub ViewRanksFill : Type 0
-ViewRanksFill = (g : Selection) (k : ℕ) → IsSelection g → k < size_of g → (v : Sight) × IsView g.grid g.tiles v × (rank_in g.grid v ≡ k)
+ViewRanksFill = (g : GroupModel) (k : ℕ) → IsGroup g → k < size_of g → (v : ViewModel) × IsView g.grid g.tiles v × (rank_in g.grid v ≡ k)
 
 -- the place of a group's view is below the group's folded size
 abbrev pub PlacesAreBelow : Type 0
-PlacesAreBelow = (g : Selection) (v : Sight) → IsView g.grid g.tiles v → place_in g.grid v < folded_size_of g
+PlacesAreBelow = (g : GroupModel) (v : ViewModel) → IsView g.grid g.tiles v → place_in g.grid v < folded_size_of g
 
 -- views of a group have one place exactly where they show the tiles on the same cells
 abbrev pub PlacesDiffer : Type 0
 PlacesDiffer =
-    (g : Selection) (v w : Sight) → IsView g.grid g.tiles v → IsView g.grid g.tiles w → (place_in g.grid v ≡ place_in g.grid w) ↔ (v.cells ≡ w.cells)
+    (g : GroupModel) (v w : ViewModel) → IsView g.grid g.tiles v → IsView g.grid g.tiles w → (place_in g.grid v ≡ place_in g.grid w) ↔ (v.cells ≡ w.cells)
 
 -- the sparse place of a group's view is below the group's sparse size
 abbrev pub SparsePlacesAreBelow : Type 0
-SparsePlacesAreBelow = (g : Selection) (v : Sight) → IsView g.grid g.tiles v → sparse_in g.grid v < sparse_size_of g
+SparsePlacesAreBelow = (g : GroupModel) (v : ViewModel) → IsView g.grid g.tiles v → sparse_in g.grid v < sparse_size_of g
 
 -- views of a group have one sparse place exactly where they show the tiles on the same cells
 abbrev pub SparsePlacesDiffer : Type 0
 SparsePlacesDiffer =
-    (g : Selection) (v w : Sight) → IsView g.grid g.tiles v → IsView g.grid g.tiles w → (sparse_in g.grid v ≡ sparse_in g.grid w) ↔ (v.cells ≡ w.cells)
+    (g : GroupModel) (v w : ViewModel) → IsView g.grid g.tiles v → IsView g.grid g.tiles w → (sparse_in g.grid v ≡ sparse_in g.grid w) ↔ (v.cells ≡ w.cells)
 
 -- the digits of a slot are cells, the blank's as the lowest, to the base of 16 or, on more cells, of their count
 abbrev pub SlotsAreDigits : Type 0
-SlotsAreDigits = (grid : Grid) (v : Sight) → slot_in grid v ≡ sparse_of (max (cell_count grid) 16) (v.blank ∷ v.cells)
+SlotsAreDigits = (grid : ShapeModel) (v : ViewModel) → slot_in grid v ≡ sparse_of (max (cell_count grid) 16) (v.blank ∷ v.cells)
 
 -- there are as many slots as numbers of that many digits
 abbrev pub SlotsAreCounted : Type 0
-SlotsAreCounted = (g : Selection) → slot_count_of g ≡ max (cell_count g.grid) 16 ^ suc (length g.tiles)
+SlotsAreCounted = (g : GroupModel) → slot_count_of g ≡ max (cell_count g.grid) 16 ^ suc (length g.tiles)
 
 -- the slot of a group's view is below the count of slots
 abbrev pub SlotsAreBelow : Type 0
-SlotsAreBelow = (g : Selection) (v : Sight) → IsView g.grid g.tiles v → slot_in g.grid v < slot_count_of g
+SlotsAreBelow = (g : GroupModel) (v : ViewModel) → IsView g.grid g.tiles v → slot_in g.grid v < slot_count_of g
 
 -- views of a group with one slot are one view
 abbrev pub SlotsDiffer : Type 0
-SlotsDiffer = (g : Selection) (v w : Sight) → IsView g.grid g.tiles v → IsView g.grid g.tiles w → slot_in g.grid v ≡ slot_in g.grid w → v ≡ w
+SlotsDiffer = (g : GroupModel) (v w : ViewModel) → IsView g.grid g.tiles v → IsView g.grid g.tiles w → slot_in g.grid v ≡ slot_in g.grid w → v ≡ w
 
 -- where one tile of a group moves, the sparse place gains its new cell times its stride, and loses its old cell times that
 abbrev pub SparsePlacesMove : Type 0
 SparsePlacesMove =
-    (g : Selection) (before after : List ℕ) (tile : ℕ)
-    → IsSelection g
+    (g : GroupModel) (before after : List ℕ) (tile : ℕ)
+    → IsGroup g
     → ((number : ℕ) → 0 < number → number ≢ tile → slice_index after number ≡ slice_index before number)
     → sparse_in g.grid (view_at g.tiles after) + slice_index before tile * stride_of (cell_count g.grid) g.tiles tile
     ≡ sparse_in g.grid (view_at g.tiles before) + slice_index after tile * stride_of (cell_count g.grid) g.tiles tile
 
 -- what a group sees of a board, its abstraction, is a view
 abbrev pub BoardsHaveViews : Type 0
-BoardsHaveViews = (tiles : List ℕ) (b : Position) → IsBoard b → IsGroup b.grid tiles → IsView b.grid tiles (view_of tiles b)
+BoardsHaveViews = (tiles : List ℕ) (b : BoardModel) → IsBoard b → AreGroupTiles b.grid tiles → IsView b.grid tiles (view_of tiles b)
 
 -- a move of a board is a view move of what a group sees, at the move's cost where the tile moved is the group's, else at 0
 abbrev pub MovesAreViewMoves : Type 0
 MovesAreViewMoves =
-    (rule : CostRule) (tiles : List ℕ) (b : Position) (m : Move) (b' : Position) (c : ℕ)
+    (rule : WeightsModel) (tiles : List ℕ) (b : BoardModel) (m : Move) (b' : BoardModel) (c : ℕ)
     → IsBoard b
-    → IsGroup b.grid tiles
+    → AreGroupTiles b.grid tiles
     → Moves rule b m b' c
     → (seen : ℕ)
     × ViewMoves (record { grid = b.grid; rule = rule; tiles = tiles }) (view_of tiles b) m (view_of tiles b') seen
@@ -116,26 +116,26 @@ MovesAreViewMoves =
 -- what is computed of a view's move is what it does
 abbrev pub SuccessorsAreViewMoves : Type 0
 SuccessorsAreViewMoves =
-    (a : Abstraction) (v : Sight) (m : Move) (v' : Sight) (c : ℕ)
+    (a : Abstraction) (v : ViewModel) (m : Move) (v' : ViewModel) (c : ℕ)
     → IsView a.grid a.tiles v
-    → (sight_successor a v m ≡ Some (v', c)) ↔ ViewMoves a v m v' c
+    → (view_successor a v m ≡ Some (v', c)) ↔ ViewMoves a v m v' c
 
 -- a view's move leads to a view
 abbrev pub ViewMovesKeepViews : Type 0
 ViewMovesKeepViews =
-    (a : Abstraction) (v : Sight) (m : Move) (v' : Sight) (c : ℕ) → IsView a.grid a.tiles v → ViewMoves a v m v' c → IsView a.grid a.tiles v'
+    (a : Abstraction) (v : ViewModel) (m : Move) (v' : ViewModel) (c : ℕ) → IsView a.grid a.tiles v → ViewMoves a v m v' c → IsView a.grid a.tiles v'
 
 -- the opposite move takes a view's move back, at the same cost
 abbrev pub ViewMovesAreTakenBack : Type 0
 ViewMovesAreTakenBack =
-    (a : Abstraction) (v : Sight) (m : Move) (v' : Sight) (c : ℕ) → IsView a.grid a.tiles v → ViewMoves a v m v' c → ViewMoves a v' (opposite m) v c
+    (a : Abstraction) (v : ViewModel) (m : Move) (v' : ViewModel) (c : ℕ) → IsView a.grid a.tiles v → ViewMoves a v m v' c → ViewMoves a v' (opposite m) v c
 
 -- a view's move leads to one view, at one cost
 abbrev pub ViewMovesAreDetermined : Type 0
 ViewMovesAreDetermined =
-    (a : Abstraction) (v : Sight) (m : Move) (v' v'' : Sight) (c d : ℕ) → ViewMoves a v m v' c → ViewMoves a v m v'' d → (v'' ≡ v') × (d ≡ c)
+    (a : Abstraction) (v : ViewModel) (m : Move) (v' v'' : ViewModel) (c d : ℕ) → ViewMoves a v m v' c → ViewMoves a v m v'' d → (v'' ≡ v') × (d ≡ c)
 
 -- a view plan leads from a view to one view, at one cost
 abbrev pub ViewPlansAreDetermined : Type 0
 ViewPlansAreDetermined =
-    (a : Abstraction) (v : Sight) (plan : List Move) (w w' : Sight) (j k : ℕ) → ViewLeads a v plan w j → ViewLeads a v plan w' k → (w' ≡ w) × (k ≡ j)
+    (a : Abstraction) (v : ViewModel) (plan : List Move) (w w' : ViewModel) (j k : ℕ) → ViewLeads a v plan w j → ViewLeads a v plan w' k → (w' ≡ w) × (k ≡ j)

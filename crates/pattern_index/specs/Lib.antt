@@ -1,9 +1,9 @@
 pub mod Views
 pub mod Ranks
-pub mod Selections
+pub mod Groups
 pub mod Sparse
 pub mod Faults
-pub mod Splits
+pub mod Partitions
 pub mod Equality
 pub mod Packing
 pub mod Laws

@@ -3,8 +3,8 @@ use Rattle.std.specs.Prelude.{◌≡◌, ℕ, zero, suc, ◌<◌, ◌≤◌, Lis
 use Rattle.std.proofs.Common.{refl, sym, ap, ◌∙◌, arith}
 use Rattle.std.proofs.lemmas.List.{length-take-le}
 use Rattle.board.specs.Padding.{array_of, IsPadded, array_of-take}
-use Rattle.pattern_index.specs.Views.{Sight}
-use Rattle.pattern_index.specs.Selections.{Selection, IsSelection, size_of}
+use Rattle.pattern_index.specs.Views.{ViewModel}
+use Rattle.pattern_index.specs.Groups.{GroupModel, IsGroup, size_of}
 use Rattle.pattern_index.specs.declared.view.View.TheInside as view
 use Rattle.pattern_index.specs.declared.group.Group.TheInside as group
 
@@ -21,11 +21,11 @@ length_used most count array filled = let few = filled.few in let all = filled.a
 -- ---- views
 
 -- what readers see of a view's memory: the blank's cell stands first
-abbrev pub sight_in : view.Inside → Sight
+abbrev pub sight_in : view.Inside → ViewModel
 sight_in inside = record { blank = slice_index inside.places 0; cells = drop 1 (take inside.count inside.places) }
 
 -- the memory of a view
-abbrev pub view_storage : Sight → view.Inside
+abbrev pub view_storage : ViewModel → view.Inside
 view_storage v = record { count = suc (length v.cells); places = array_of 10 (v.blank ∷ v.cells) }
 
 -- the memory holds the blank's cell at least
@@ -50,16 +50,16 @@ view_storage-sight_in inside stored =
 -- ---- groups
 
 -- what readers see of a group's memory
-abbrev pub selection_in : group.Inside → Selection
+abbrev pub selection_in : group.Inside → GroupModel
 selection_in inside = record { grid = inside.shape; tiles = take inside.count inside.tiles }
 
 -- the memory of a group
-abbrev pub group_storage : Selection → group.Inside
+abbrev pub group_storage : GroupModel → group.Inside
 group_storage g = record { shape = g.grid; count = length g.tiles; tiles = array_of 9 g.tiles; size = size_of g }
 
 -- the memory holds a group and its size
 pub record IsStoredGroup (inside : group.Inside) : Type 0 where
-  pub selection : IsSelection (selection_in inside)
+  pub selection : IsGroup (selection_in inside)
   pub tiles : IsFilled 9 inside.count inside.tiles
   pub size : inside.size ≡ size_of (selection_in inside)
 

@@ -1,18 +1,18 @@
 -- Worked rows: what the definitions say of views that a reader can follow by hand.
 use Rattle.std.specs.Prelude.{ℕ, ◌≡◌, ◌<◌, ◌≤◌, List, [], ◌∷◌, Some, None}
 use Rattle.board.specs.declared.moves.Move.TheVariants.{U, L, R, D}
-use Rattle.board.specs.Grids.{Grid}
-use Rattle.board.specs.CostRules.{face_rule}
+use Rattle.board.specs.Shapes.{ShapeModel}
+use Rattle.board.specs.Weights.{face_rule}
 use Rattle.board.specs.Worked.{grid_of, two_by_three}
 use Rattle.pattern_index.specs.declared.group.TheConstants.{MAX_SIZE}
-use Rattle.pattern_index.specs.Views.{Sight, Abstraction, ViewLeads, view_of}
-use Rattle.pattern_index.specs.Selections.{Selection, size_of, rank_in, sight_successor}
+use Rattle.pattern_index.specs.Views.{ViewModel, Abstraction, ViewLeads, view_of}
+use Rattle.pattern_index.specs.Groups.{GroupModel, size_of, rank_in, view_successor}
 use Rattle.pattern_index.specs.Sparse.{slot_count_of, slot_in}
 
-abbrev pub sight : ℕ → List ℕ → Sight
+abbrev pub sight : ℕ → List ℕ → ViewModel
 sight blank cells = record { blank = blank; cells = cells }
 
-abbrev pub group_of : Grid → List ℕ → Selection
+abbrev pub group_of : ShapeModel → List ℕ → GroupModel
 group_of grid tiles = record { grid = grid; tiles = tiles }
 
 -- the blank's cell counts most, then the cells of the tiles in their order
@@ -57,10 +57,10 @@ OblongView = view_of (1 ∷ 5 ∷ []) (two_by_three (1 ∷ 2 ∷ 0 ∷ 3 ∷ 4 �
 -- what each move makes of that view: tile 2 is not seen, so it moves at no cost
 abbrev pub FourViewMoves : Type 0
 FourViewMoves =
-    (sight_successor one_and_five (sight 2 (0 ∷ 5 ∷ [])) U ≡ None)
-    × (sight_successor one_and_five (sight 2 (0 ∷ 5 ∷ [])) L ≡ Some (sight 1 (0 ∷ 5 ∷ []), 0))
-    × (sight_successor one_and_five (sight 2 (0 ∷ 5 ∷ [])) R ≡ None)
-    × (sight_successor one_and_five (sight 2 (0 ∷ 5 ∷ [])) D ≡ Some (sight 5 (0 ∷ 2 ∷ []), 5))
+    (view_successor one_and_five (sight 2 (0 ∷ 5 ∷ [])) U ≡ None)
+    × (view_successor one_and_five (sight 2 (0 ∷ 5 ∷ [])) L ≡ Some (sight 1 (0 ∷ 5 ∷ []), 0))
+    × (view_successor one_and_five (sight 2 (0 ∷ 5 ∷ [])) R ≡ None)
+    × (view_successor one_and_five (sight 2 (0 ∷ 5 ∷ [])) D ≡ Some (sight 5 (0 ∷ 2 ∷ []), 5))
 
 -- four view moves on from that view, of which the first moves tile 5 and the last tile 1
 abbrev pub OneViewPlan : Type 0

@@ -4,18 +4,19 @@ ghost use Rattle.std.specs.Prelude.{ℕ, suc, ◌≡◌, ◌≢◌, ◌↔◌, �
 ghost use Rattle.std.specs.Prelude.{IsTrue, IsOk, IsErrOf, IfOk, IfErr, IfSome, OnOk, OnSome};
 ghost use Rattle.std.specs.Prelude.{MatchOption, IsPermutation, length, All, AllPairs};
 ghost use Rattle.std.specs.List.Sorted.{IsNonDecreasing};
-ghost use Rattle.board.specs.Grids.{cell_count};
-ghost use Rattle.pattern_index.specs.Views.{Sight, IsView, ViewMoves, view_of, view_at, exchanged};
+ghost use Rattle.board.specs.Shapes.{cell_count};
+ghost use Rattle.pattern_index.specs.Views.{ViewModel, IsView, ViewMoves, view_of, view_at};
+ghost use Rattle.pattern_index.specs.Views.{exchanged};
 ghost use Rattle.pattern_index.specs.Views.{weight_on};
 ghost use Rattle.pattern_index.specs.Ranks.{ways, rank_of};
-ghost use Rattle.pattern_index.specs.Selections.{Selection, IsTile, IsGroup, IsSelection};
-ghost use Rattle.pattern_index.specs.Selections.{size_of, rank_in, abstraction_of};
-ghost use Rattle.pattern_index.specs.Selections.{folded_size_of, place_in};
-ghost use Rattle.pattern_index.specs.Selections.{sight_successor};
+ghost use Rattle.pattern_index.specs.Groups.{GroupModel, IsTile, AreGroupTiles, IsGroup};
+ghost use Rattle.pattern_index.specs.Groups.{size_of, rank_in, abstraction_of};
+ghost use Rattle.pattern_index.specs.Groups.{folded_size_of, place_in};
+ghost use Rattle.pattern_index.specs.Groups.{view_successor};
 ghost use Rattle.pattern_index.specs.Sparse.{digits_in, sparse_in, sparse_size_of, stride_of};
 ghost use Rattle.pattern_index.specs.Sparse.{slot_in, slot_count_of};
 ghost use Rattle.pattern_index.specs.Laws.{factorial};
-ghost use Rattle.pattern_index.specs.Faults.{IsFirstFault};
+ghost use Rattle.pattern_index.specs.Faults.{IsFirstGroupFault};
 ghost use Rattle.pattern_index.specs.declared.faults.GroupFault.{GroupFault};
 
 use crate::cells::{rank_cells, rank_numbers, rank_tiles};
@@ -41,9 +42,9 @@ pub struct Group {
 }
 
 impl Model for Group {
-    ghost use Rattle.pattern_index.specs.Selections.{Selection};
+    ghost use Rattle.pattern_index.specs.Groups.{GroupModel};
 
-    ghost Value = { Selection };
+    ghost Value = { GroupModel };
 
     ghost use Rattle.pattern_index.specs.Packing.{selection_in, group_storage, IsStoredGroup};
     ghost use Rattle.pattern_index.specs.Packing.{group_storage-selection_in};
@@ -86,13 +87,13 @@ impl Group {
     /// more than `MAX_SIZE` views.
     pub fn new(shape: Shape, numbers: &[u8]) -> Result<Self, GroupFault>
         ensures accepted { IsOk result ↔
-            (0 < length numbers.now) × IsGroup shape numbers.now
+            (0 < length numbers.now) × AreGroupTiles shape numbers.now
             × (size_of (record { grid = shape; tiles = numbers.now }) ≤ MAX_SIZE) }
         ensures grid { IfOk result (λ g. g.grid ≡ shape) }
         ensures tiles { IfOk result (λ g. IsPermutation numbers.now g.tiles) }
-        ensures group { IfOk result IsSelection }
+        ensures group { IfOk result IsGroup }
         ensures fault { (fault : GroupFault) →
-            IsErrOf result fault ↔ IsFirstFault shape numbers.now fault }
+            IsErrOf result fault ↔ IsFirstGroupFault shape numbers.now fault }
     {
         if let Err(fault) = check_tiles(shape, numbers) {
             return Err(fault);
@@ -114,7 +115,7 @@ impl Group {
     /// The shape of its boards.
     pub fn shape(&self) -> Shape
         ensures value { result ≡ self.now.grid }
-        ensures group { IsSelection self.now }
+        ensures group { IsGroup self.now }
     {
         self.shape
     }
@@ -123,7 +124,7 @@ impl Group {
     #[tactic(auto, using(crate::proofs::GroupLemmas::groups_small))]
     pub fn tiles(&self) -> &[u8]
         ensures value { result.now ≡ self.now.tiles }
-        ensures group { IsSelection self.now }
+        ensures group { IsGroup self.now }
         ensures few { length self.now.tiles ≤ 9 }
         ensures room { suc (length self.now.tiles) ≤ cell_count self.now.grid }
     {
@@ -294,7 +295,7 @@ impl Group {
     /// these are the same: no view has that.
     pub fn place_of_sparse(&self, sparse: usize) -> Option<usize>
         ensures some { IfSome result (λ place. place < folded_size_of self.now) }
-        ensures view { (v : Sight) → IsView self.now.grid self.now.tiles v
+        ensures view { (v : ViewModel) → IsView self.now.grid self.now.tiles v
             → sparse_in self.now.grid v ≡ sparse → result ≡ Some (place_in self.now.grid v) }
         ensures none { ¬ AllPairs (λ x y. x ≢ y)
             (digits_in (cell_count self.now.grid) (length self.now.tiles) sparse)
@@ -319,7 +320,7 @@ impl Group {
         requires { rank < size_of self.now }
         ensures view { IsView self.now.grid self.now.tiles result }
         ensures rank { rank_in self.now.grid result ≡ rank }
-        ensures one { (v : Sight) → IsView self.now.grid self.now.tiles v
+        ensures one { (v : ViewModel) → IsView self.now.grid self.now.tiles v
             → rank_in self.now.grid v ≡ rank → v ≡ result }
     {
         View::of_rank(self.shape().cells(), self.tiles().len() + 1, rank)
@@ -330,11 +331,11 @@ impl Group {
     pub fn step(&self, view: &View, direction: Move, weights: &Weights) -> Option<(View, u32)>
         requires grid { weights.now.grid ≡ self.now.grid }
         requires view { IsView self.now.grid self.now.tiles view.now }
-        ensures moves { (v : Sight) (cost : ℕ) →
+        ensures moves { (v : ViewModel) (cost : ℕ) →
             (result ≡ Some (v, cost))
             ↔ ViewMoves (abstraction_of self.now weights.now) view.now direction v cost }
         ensures value { result
-            ≡ sight_successor (abstraction_of self.now weights.now) view.now direction }
+            ≡ view_successor (abstraction_of self.now weights.now) view.now direction }
         ensures view { IfSome result (λ moved. IsView self.now.grid self.now.tiles moved.0) }
         ensures high { IfSome result (λ moved. moved.1 ≤ 255) }
     {
@@ -347,9 +348,9 @@ impl Group {
 // The first fault of numbers that should be some different tiles, if there is one.
 fn check_tiles(shape: Shape, numbers: &[u8]) -> Result<(), GroupFault>
     ensures some { OnOk result (0 < length numbers.now) }
-    ensures group { OnOk result (IsGroup shape numbers.now) }
+    ensures group { OnOk result (AreGroupTiles shape numbers.now) }
     ensures room { OnOk result (length numbers.now + 1 ≤ cell_count shape) }
-    ensures fault { IfErr result (IsFirstFault shape numbers.now) }
+    ensures fault { IfErr result (IsFirstGroupFault shape numbers.now) }
 {
     if numbers.is_empty() {
         return Err(GroupFault::Empty);

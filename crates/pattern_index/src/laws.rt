@@ -5,8 +5,10 @@ ghost use Rattle.pattern_index.specs.Laws.{WaysAreFactorials, RanksAreBelow, Ran
 ghost use Rattle.pattern_index.specs.Laws.{RanksFill, RanksAreInOrder, GroupsAreSmall};
 ghost use Rattle.pattern_index.specs.Laws.{ViewRanksAreBelow, ViewRanksDiffer, ViewRanksFill};
 ghost use Rattle.pattern_index.specs.Laws.{PlacesAreBelow, PlacesDiffer};
-ghost use Rattle.pattern_index.specs.Laws.{SparsePlacesAreBelow, SparsePlacesDiffer, SparsePlacesMove};
-ghost use Rattle.pattern_index.specs.Laws.{SlotsAreBelow, SlotsAreCounted, SlotsAreDigits, SlotsDiffer};
+ghost use Rattle.pattern_index.specs.Laws.{SparsePlacesAreBelow, SparsePlacesDiffer};
+ghost use Rattle.pattern_index.specs.Laws.{SparsePlacesMove};
+ghost use Rattle.pattern_index.specs.Laws.{SlotsAreBelow, SlotsAreCounted, SlotsAreDigits};
+ghost use Rattle.pattern_index.specs.Laws.{SlotsDiffer};
 ghost use Rattle.pattern_index.specs.Laws.{BoardsHaveViews, MovesAreViewMoves};
 ghost use Rattle.pattern_index.specs.Laws.{SuccessorsAreViewMoves, ViewMovesKeepViews};
 ghost use Rattle.pattern_index.specs.Laws.{ViewMovesAreTakenBack};

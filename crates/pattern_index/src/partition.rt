@@ -1,8 +1,9 @@
 //! Partitions: groups of which no two share a tile.
 
 ghost use Rattle.std.specs.Prelude.{◌≡◌, ◌↔◌, ◌<◌, ◌≤◌, length, All, IsOk, IsErrOf, IfOk, IsTrue};
-ghost use Rattle.pattern_index.specs.Selections.{IsSelection};
-ghost use Rattle.pattern_index.specs.Splits.{Split, IsSplit, IsSplitFault, AreApart, ShareNoTile};
+ghost use Rattle.pattern_index.specs.Groups.{IsGroup};
+ghost use Rattle.pattern_index.specs.Partitions.{PartitionModel, IsPartition, IsPartitionFault};
+ghost use Rattle.pattern_index.specs.Partitions.{AreApart, ShareNoTile};
 ghost use Rattle.pattern_index.specs.declared.faults.PartitionFault.{PartitionFault};
 
 use crate::faults::PartitionFault;
@@ -20,13 +21,13 @@ pub struct Partition {
 }
 
 impl Model for Partition {
-    ghost use Rattle.pattern_index.specs.Splits.{Split, IsSplit};
+    ghost use Rattle.pattern_index.specs.Partitions.{PartitionModel, IsPartition};
 
-    ghost Value = { Split };
+    ghost Value = { PartitionModel };
 
     ghost view = { λ p. record { grid = p.shape; groups = p.groups.items } };
 
-    ghost invariant = { λ p. IsSplit (record { grid = p.shape; groups = p.groups.items }) };
+    ghost invariant = { λ p. IsPartition (record { grid = p.shape; groups = p.groups.items }) };
 }
 
 impl Partition {
@@ -37,7 +38,7 @@ impl Partition {
         ensures accepted { IsOk result ↔ (length groups.items ≤ 24) × AreApart groups.items }
         ensures value { IfOk result (λ p. p ≡ record { grid = shape; groups = groups.items }) }
         ensures fault { (fault : PartitionFault) →
-            IsErrOf result fault ↔ IsSplitFault groups.items fault }
+            IsErrOf result fault ↔ IsPartitionFault groups.items fault }
     {
         if groups.len() > 24 {
             return Err(PartitionFault::TooManyGroups);
@@ -51,7 +52,7 @@ impl Partition {
     /// The shape of its groups.
     pub fn shape(&self) -> Shape
         ensures value { result ≡ self.now.grid }
-        ensures partition { IsSplit self.now }
+        ensures partition { IsPartition self.now }
     {
         self.shape
     }
@@ -78,7 +79,7 @@ impl Partition {
 // Whether no two groups share a tile.
 fn are_apart(groups: &[Group]) -> bool
     ensures apart { IsTrue result ↔ AreApart groups.now }
-    ensures groups { IsTrue result → All (λ g. IsSelection g) groups.now }
+    ensures groups { IsTrue result → All (λ g. IsGroup g) groups.now }
 {
     'groups: for i in 0..groups.len() {
         let group = groups[i];

@@ -1,6 +1,7 @@
 //! Sparse places: cells as the digits of a number.
 
-ghost use Rattle.std.specs.Prelude.{ℕ, ◌≡◌, ◌≢◌, ◌↔◌, ◌*◌, ◌^◌, ◌<◌, ◌≤◌, length, map, slice_index, All, AllPairs, IsTrue};
+ghost use Rattle.std.specs.Prelude.{ℕ, ◌≡◌, ◌≢◌, ◌↔◌, ◌*◌, ◌^◌, ◌<◌, ◌≤◌, length, map, slice_index};
+ghost use Rattle.std.specs.Prelude.{All, AllPairs, IsTrue};
 ghost use Rattle.pattern_index.specs.Sparse.{sparse_of, digits_in, stride_of, digit_base};
 ghost use Rattle.pattern_index.specs.Views.{exchanged};
 

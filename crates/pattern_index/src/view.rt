@@ -2,10 +2,10 @@
 
 ghost use Rattle.std.specs.Prelude.{ℕ, suc, ◌≡◌, ◌↔◌, ◌==◌, ◌<◌, ◌≤◌, ◌∷◌, if◌then◌else◌};
 ghost use Rattle.std.specs.Prelude.{length, slice_index, map, All, IsTrue};
-ghost use Rattle.board.specs.Grids.{cell_count};
-ghost use Rattle.board.specs.Positions.{IsBoard, cell_of};
+ghost use Rattle.board.specs.Shapes.{cell_count};
+ghost use Rattle.board.specs.Boards.{IsBoard, cell_of};
 ghost use Rattle.pattern_index.specs.Ranks.{ways, list_at};
-ghost use Rattle.pattern_index.specs.Views.{Sight, view_of, exchanged};
+ghost use Rattle.pattern_index.specs.Views.{ViewModel, view_of, exchanged};
 
 use crate::cells::list_cells;
 use board::Board;
@@ -20,9 +20,9 @@ pub struct View {
 }
 
 impl Model for View {
-    ghost use Rattle.pattern_index.specs.Views.{Sight};
+    ghost use Rattle.pattern_index.specs.Views.{ViewModel};
 
-    ghost Value = { Sight };
+    ghost Value = { ViewModel };
 
     ghost use Rattle.pattern_index.specs.Packing.{sight_in, view_storage, IsStoredView};
     ghost use Rattle.pattern_index.specs.Packing.{view_storage-sight_in};

@@ -21,10 +21,10 @@ use Rattle.pattern_search.specs.Layers.{Has, IsIn, IsUnion, IsNodeSet, AreBelow,
 use Rattle.pattern_search.specs.declared.layers.NodeSet.{NodeSet}
 use Rattle.pattern_search.specs.declared.layers.Layers.{Layers}
 use Rattle.pattern_search.specs.declared.finding.TheConstants.{NO_VALUE}
-use Rattle.board.specs.Positions.{Position}
-use Rattle.board.specs.CostRules.{CostRule}
-use Rattle.pattern_index.specs.Views.{Sight, view_of}
-use Rattle.pattern_index.specs.Selections.{Selection, abstraction_of}
+use Rattle.board.specs.Boards.{BoardModel}
+use Rattle.board.specs.Weights.{WeightsModel}
+use Rattle.pattern_index.specs.Views.{ViewModel, view_of}
+use Rattle.pattern_index.specs.Groups.{GroupModel, abstraction_of}
 use Rattle.pattern_graph.specs.declared.regions.Regions.{Regions}
 use Rattle.pattern_graph.proofs.GraphLemmas.{IsParted, parted}
 use Rattle.pattern_search.specs.Searches.{IsValue, IsSought, AreFound}
@@ -1101,7 +1101,7 @@ module _ (q : Quest) (weight : ℕ) (even : IsEven q weight) where
       }
 
   -- where the search is over each value is that of its node's views
-  search_done : (cost : ℕ) (any : Bool) (l : Layers) → IsSearching q weight cost any l → (any ≡ false) ⊎ (NO_VALUE ≤ cost) → (v : Sight) → IsViewOf q v → IsValue q.space q.goal v (slice_index l.values.items (node q v))
+  search_done : (cost : ℕ) (any : Bool) (l : Layers) → IsSearching q weight cost any l → (any ≡ false) ⊎ (NO_VALUE ≤ cost) → (v : ViewModel) → IsViewOf q v → IsValue q.space q.goal v (slice_index l.values.items (node q v))
   search_done cost any l here over = values_are q even.graph cost l.values.items [] under_way (omega arith)
     where
       size : length l.values.items ≡ count_of q
@@ -1153,9 +1153,9 @@ IsSame g weight = (place : ℕ) → place < g.regions.count → slice_index g.co
 pub record IsLayered (g : Graph) (start weight cost : ℕ) (any : Bool) (l : Layers) : Type 0 where
   pub graph : l.graph ≡ g
   pub layers : AreLayers l
-  pub each : (selection : Selection) (rule : CostRule) (goal : Position) → IsSought selection rule goal g start → IsSearching (quest_of selection rule goal g) weight cost any l
+  pub each : (selection : GroupModel) (rule : WeightsModel) (goal : BoardModel) → IsSought selection rule goal g start → IsSearching (quest_of selection rule goal g) weight cost any l
 
-even_of : (g : Graph) (start weight : ℕ) → IsSoundGraph g → IsSame g weight → (selection : Selection) (rule : CostRule) (goal : Position) → IsSought selection rule goal g start → IsEven (quest_of selection rule goal g) weight
+even_of : (g : Graph) (start weight : ℕ) → IsSoundGraph g → IsSame g weight → (selection : GroupModel) (rule : WeightsModel) (goal : BoardModel) → IsSought selection rule goal g start → IsEven (quest_of selection rule goal g) weight
 even_of g start weight sound same selection rule goal sought = record { graph = sought.made.graph; sound = sound; view = sought.view; same = same }
 
 module _ (g : Graph) (start weight : ℕ) (sound : IsSoundGraph g) (same : IsSame g weight) where
@@ -1177,7 +1177,7 @@ module _ (g : Graph) (start weight : ℕ) (sound : IsSoundGraph g) (same : IsSam
       }
 
   pub layered_done : (cost : ℕ) (any : Bool) (l : Layers) (found : Found) → IsLayered g start weight cost any l → (any ≡ false) ⊎ (NO_VALUE ≤ cost) → found.regions ≡ l.graph.regions → found.values.items ≡ l.values.items
-      → (selection : Selection) (rule : CostRule) (goal : Position) → IsSought selection rule goal g start → AreFound selection rule goal found
+      → (selection : GroupModel) (rule : WeightsModel) (goal : BoardModel) → IsSought selection rule goal g start → AreFound selection rule goal found
   layered_done cost any l found now over regions values selection rule goal sought =
       let at : found.regions ≡ g.regions = regions ∙ ap (λ (x : Graph). x.regions) now.graph in
       let each = search_done (quest_of selection rule goal g) weight (even_of g start weight sound same selection rule goal sought) cost any l (now.each selection rule goal sought) over in

@@ -10,11 +10,11 @@ use Rattle.std.proofs.lemmas.List.Sums.{sum_by-set}
 use Rattle.std.proofs.lemmas.Option.{slice_get_read, slice_get_past, slice_get_within}
 use Rattle.board.specs.declared.moves.Move.{Move}
 use Rattle.board.specs.Neighbours.{opposite}
-use Rattle.board.specs.Positions.{Position}
-use Rattle.board.specs.CostRules.{CostRule}
+use Rattle.board.specs.Boards.{BoardModel}
+use Rattle.board.specs.Weights.{WeightsModel}
 use Rattle.pattern_index.specs.Laws.{factorial}
-use Rattle.pattern_index.specs.Views.{Sight, IsView, Abstraction, ViewMoves, ViewLeads, view_of}
-use Rattle.pattern_index.specs.Selections.{Selection, abstraction_of}
+use Rattle.pattern_index.specs.Views.{ViewModel, IsView, Abstraction, ViewMoves, ViewLeads, view_of}
+use Rattle.pattern_index.specs.Groups.{GroupModel, abstraction_of}
 use Rattle.pattern_index.proofs.ViewMoveLemmas.{moved_view, moved_back}
 use Rattle.pattern_graph.proofs.SlotLemmas.{get_set_same, get_set_other}
 use Rattle.pattern_graph.specs.Regions.{HasEdge}
@@ -228,13 +228,13 @@ same_read b cost v w inside first second = some_is (sym (slice_get_read b (lengt
 pub record Quest : Type 0 where
   pub space : Abstraction
   pub graph : Graph
-  pub goal : Sight
+  pub goal : ViewModel
 
 -- v is a view of the group
-abbrev pub IsViewOf : Quest → Sight → Type 0
+abbrev pub IsViewOf : Quest → ViewModel → Type 0
 IsViewOf q v = IsView q.space.grid q.space.tiles v
 
-abbrev pub node : Quest → Sight → ℕ
+abbrev pub node : Quest → ViewModel → ℕ
 node q v = node_in q.graph.regions v
 
 abbrev pub count_of : Quest → ℕ
@@ -249,12 +249,12 @@ abbrev pub Passes : Quest → ℕ → Edge → ℕ → ℕ → Type 0
 Passes q k e to c = IsPast q.graph.regions q.graph.edges q.graph.costs k e to c
 
 -- the plan brings the view to the goal's
-abbrev pub Leads : Quest → Sight → List Move → ℕ → Type 0
+abbrev pub Leads : Quest → ViewModel → List Move → ℕ → Type 0
 Leads q v plan n = ViewLeads q.space v plan q.goal n
 
 -- each view of the node has a plan at this cost
 abbrev pub IsReached : Quest → ℕ → ℕ → Type 0
-IsReached q k n = (v : Sight) → IsViewOf q v → node q v ≡ k → (plan : List Move) × Leads q v plan n
+IsReached q k n = (v : ViewModel) → IsViewOf q v → node q v ≡ k → (plan : List Move) × Leads q v plan n
 
 -- where a node is reached, so is each node to which an edge leads from there
 pub reached_past : (q : Quest) → HasGraph q → (cost here : ℕ) (e : Edge) (to c : ℕ) → here < count_of q → IsReached q here cost → Passes q here e to c → (to < count_of q) × IsReached q to (cost + c)
@@ -647,10 +647,10 @@ module _ (q : Quest) (graph : HasGraph q) (cost : ℕ) (values : List ℕ) (b : 
       absurd (omega (arith, waiting.0)))
       (now.settled k k_in low)
 
-  none_below : (v : Sight) → IsViewOf q v → (plan : List Move) (j : ℕ) → Leads q v plan j → slice_index values (node q v) ≤ j
+  none_below : (v : ViewModel) → IsViewOf q v → (plan : List Move) (j : ℕ) → Leads q v plan j → slice_index values (node q v) ≤ j
   none_below v view [] j leads =
       let start = now.start in
-      let same : slice_index values (node q q.goal) ≡ slice_index values (node q v) = ap (λ (x : Sight). slice_index values (node q x)) leads.0 in
+      let same : slice_index values (node q q.goal) ≡ slice_index values (node q v) = ap (λ (x : ViewModel). slice_index values (node q x)) leads.0 in
       omega arith
   none_below v view (m ∷ plan) j leads =
       let next : IsViewOf q leads.0 = moved_view q.space v m leads.0 leads.1 view leads.3 in
@@ -670,7 +670,7 @@ module _ (q : Quest) (graph : HasGraph q) (cost : ℕ) (values : List ℕ) (b : 
       (λ (high : NO_VALUE ≤ slice_index values (node q leads.0)). omega (arith, leads.5))
       (cases_lt (slice_index values (node q leads.0)) NO_VALUE)
 
-  pub values_are : (v : Sight) → IsViewOf q v → IsValue q.space q.goal v (slice_index values (node q v))
+  pub values_are : (v : ViewModel) → IsViewOf q v → IsValue q.space q.goal v (slice_index values (node q v))
   values_are v view = record {
     capped = now.capped (node q v);
     reached = λ low. now.reached (node q v) (graph.inside v view) low v view refl;
@@ -679,16 +679,16 @@ module _ (q : Quest) (graph : HasGraph q) (cost : ℕ) (values : List ℕ) (b : 
 
 -- ---- a search for a group
 
-abbrev pub quest_of : Selection → CostRule → Position → Graph → Quest
+abbrev pub quest_of : GroupModel → WeightsModel → BoardModel → Graph → Quest
 quest_of selection rule goal g = record { space = abstraction_of selection rule; graph = g; goal = view_of selection.tiles goal }
 
 -- a search that is under way for a group and a goal
-pub record IsSeeking (selection : Selection) (rule : CostRule) (goal : Position) (cost : ℕ) (s : Search) : Type 0 where
+pub record IsSeeking (selection : GroupModel) (rule : WeightsModel) (goal : BoardModel) (cost : ℕ) (s : Search) : Type 0 where
   pub made : IsGraphOf selection rule s.graph
   pub sound : IsSoundGraph s.graph
   pub under_way : IsUnderWay (quest_of selection rule goal s.graph) cost s.values.items s.buckets.items
 
-module _ (selection : Selection) (rule : CostRule) (goal : Position) where
+module _ (selection : GroupModel) (rule : WeightsModel) (goal : BoardModel) where
   seeking_from : (g : Graph) (cost : ℕ) (s : Search) → IsGraphOf selection rule g → IsSoundGraph g → IsRunning (quest_of selection rule goal g) cost s → IsSeeking selection rule goal cost s
   seeking_from g cost s made sound running = record {
     made = subst (λ (x : Graph). IsGraphOf selection rule x) (sym running.graph) made;
@@ -710,16 +710,16 @@ module _ (selection : Selection) (rule : CostRule) (goal : Position) where
   seeking_next cost s s' b now kept values none same long =
       seeking_from s.graph (cost + 1) s' now.made now.sound (running_next (quest_of selection rule goal s.graph) cost s s' b (record { under_way = now.under_way; graph = refl }) kept values none same long)
 
-  pub seeking_done : (cost : ℕ) (s : Search) → IsSeeking selection rule goal cost s → length s.buckets.items ≤ cost → (v : Sight) → IsView selection.grid selection.tiles v → IsValue (abstraction_of selection rule) (view_of selection.tiles goal) v (slice_index s.values.items (node_in s.graph.regions v))
+  pub seeking_done : (cost : ℕ) (s : Search) → IsSeeking selection rule goal cost s → length s.buckets.items ≤ cost → (v : ViewModel) → IsView selection.grid selection.tiles v → IsValue (abstraction_of selection rule) (view_of selection.tiles goal) v (slice_index s.values.items (node_in s.graph.regions v))
   seeking_done cost s now over v view = values_are (quest_of selection rule goal s.graph) now.made.graph cost s.values.items s.buckets.items now.under_way over v view
 
 -- so it is for all groups and goals that are sought
 abbrev pub AreSeeking : Graph → ℕ → ℕ → Search → Type 0
-AreSeeking g start cost s = (selection : Selection) (rule : CostRule) (goal : Position) → IsSought selection rule goal g start → IsSeeking selection rule goal cost s
+AreSeeking g start cost s = (selection : GroupModel) (rule : WeightsModel) (goal : BoardModel) → IsSought selection rule goal g start → IsSeeking selection rule goal cost s
 
 -- some group and goal
 abbrev pub SomeSought : Graph → ℕ → Type 0
-SomeSought g start = (selection : Selection) × (rule : CostRule) × (goal : Position) × IsSought selection rule goal g start
+SomeSought g start = (selection : GroupModel) × (rule : WeightsModel) × (goal : BoardModel) × IsSought selection rule goal g start
 
 -- what is sought, out of the pair that says that there is something
 pub seeking_some : (g : Graph) (start cost : ℕ) (s : Search) → AreSeeking g start cost s → (some : SomeSought g start) → IsSeeking some.0 some.1 some.2 cost s
@@ -730,7 +730,7 @@ are_seeking_first g s s' start sound fresh lowered selection rule goal sought =
     seeking_first selection rule goal g s s' start sought.made sound sought.view sought.node fresh lowered
 
 -- what a search has found at its end
-pub seeking_found : (g : Graph) (start cost : ℕ) (s : Search) → AreSeeking g start cost s → length s.buckets.items ≤ cost → (selection : Selection) (rule : CostRule) (goal : Position) → IsSought selection rule goal g start
+pub seeking_found : (g : Graph) (start cost : ℕ) (s : Search) → AreSeeking g start cost s → length s.buckets.items ≤ cost → (selection : GroupModel) (rule : WeightsModel) (goal : BoardModel) → IsSought selection rule goal g start
     → AreFound selection rule goal (record { regions = s.graph.regions; values = s.values })
 seeking_found g start cost s are over selection rule goal sought =
     let is = are selection rule goal sought in
@@ -743,14 +743,14 @@ seeking_found g start cost s are over selection rule goal sought =
 -- ---- a view has one value
 
 -- a smaller value is reached, so the other is none above it
-no_more : (a : Abstraction) (goal v : Sight) (n k : ℕ) → IsValue a goal v n → IsValue a goal v k → k ≤ n
+no_more : (a : Abstraction) (goal v : ViewModel) (n k : ℕ) → IsValue a goal v n → IsValue a goal v k → k ≤ n
 no_more a goal v n k is is' =
     ⊎_elim
     (λ (low : n < NO_VALUE). let plan = is.reached low in is'.none_below plan.0 n plan.1)
     (λ (high : NO_VALUE ≤ n). let top = is'.capped in omega arith)
     (cases_lt n NO_VALUE)
 
-pub one_value : (a : Abstraction) (goal v : Sight) (n k : ℕ) → IsValue a goal v n → IsValue a goal v k → n ≡ k
+pub one_value : (a : Abstraction) (goal v : ViewModel) (n k : ℕ) → IsValue a goal v n → IsValue a goal v k → n ≡ k
 one_value a goal v n k is is' =
     let le = no_more a goal v n k is is' in
     let ge = no_more a goal v k n is' is in

@@ -2,12 +2,12 @@
 use Rattle.std.specs.Prelude.{ℕ, ◌≡◌, ◌⊎◌, ◌+◌, ◌≤◌, List, Vec, length, Contains, Option, Some, None, slice_get, zero, suc, ◌≢◌, ◌-◌, ◌*◌, ◌/◌, ◌%◌, ◌<◌, [], replicate, slice_index, sum}
 use Rattle.std.specs.declared.alloc.Global.{Global}
 use Rattle.board.specs.declared.moves.Move.{Move}
-use Rattle.board.specs.Positions.{Position}
-use Rattle.board.specs.CostRules.{CostRule}
-use Rattle.pattern_index.specs.Views.{Sight, IsView, Abstraction, ViewLeads, view_of}
+use Rattle.board.specs.Boards.{BoardModel}
+use Rattle.board.specs.Weights.{WeightsModel}
+use Rattle.pattern_index.specs.Views.{ViewModel, IsView, Abstraction, ViewLeads, view_of}
 use Rattle.pattern_index.specs.Laws.{factorial}
-use Rattle.pattern_index.specs.Selections.{Selection, abstraction_of}
-use Rattle.pattern_graph.specs.Frames.{GroupSize, Fits}
+use Rattle.pattern_index.specs.Groups.{GroupModel, abstraction_of}
+use Rattle.pattern_graph.specs.Frames.{FrameModel, FitsGroup}
 use Rattle.pattern_graph.specs.Orders.{tile_of}
 use Rattle.pattern_graph.specs.Regions.{IsRegions}
 use Rattle.pattern_graph.specs.Graphs.{node_in, node_count, IsGraphOf, target, IsSoundGraph}
@@ -20,14 +20,14 @@ use Rattle.pattern_search.specs.declared.finding.TheConstants.{NO_VALUE}
 -- ---- values (Korf, Felner 2002)
 
 -- n is the smaller of NO_VALUE and the least cost of a view plan to the goal's view; it is NO_VALUE where there is none
-pub record IsValue (a : Abstraction) (goal v : Sight) (n : ℕ) : Type 0 where
+pub record IsValue (a : Abstraction) (goal v : ViewModel) (n : ℕ) : Type 0 where
   pub capped : n ≤ NO_VALUE
   pub reached : n < NO_VALUE → (plan : List Move) × ViewLeads a v plan goal n
   pub none_below : (plan : List Move) (j : ℕ) → ViewLeads a v plan goal j → n ≤ j
 
 -- a view has one value
 abbrev pub ValuesAreDetermined : Type 0
-ValuesAreDetermined = (a : Abstraction) (goal v : Sight) (n k : ℕ) → IsValue a goal v n → IsValue a goal v k → n ≡ k
+ValuesAreDetermined = (a : Abstraction) (goal v : ViewModel) (n k : ℕ) → IsValue a goal v n → IsValue a goal v k → n ≡ k
 
 -- ---- ranks that wait in buckets of cost
 
@@ -131,8 +131,8 @@ IsVisited node cost s s' =
 -- ---- where a search begins, and what it finds
 
 -- the frame fits the group, whose grid the goal and the costs of moves have
-pub record IsTask (size : GroupSize) (g : Selection) (goal : Position) (rule : CostRule) : Type 0 where
-  pub fits : Fits size g
+pub record IsBuildTask (size : FrameModel) (g : GroupModel) (goal : BoardModel) (rule : WeightsModel) : Type 0 where
+  pub fits : FitsGroup size g
   pub same_goal : goal.grid ≡ g.grid
   pub same_costs : rule.grid ≡ g.grid
 
@@ -142,17 +142,17 @@ pub record IsStart (g : Graph) (start : ℕ) : Type 0 where
   pub inside : start < node_count g.regions
 
 -- the graph is that of a group, and the search begins at the goal's node
-pub record IsSought (selection : Selection) (rule : CostRule) (goal : Position) (g : Graph) (start : ℕ) : Type 0 where
+pub record IsSought (selection : GroupModel) (rule : WeightsModel) (goal : BoardModel) (g : Graph) (start : ℕ) : Type 0 where
   pub made : IsGraphOf selection rule g
   pub view : IsView selection.grid selection.tiles (view_of selection.tiles goal)
   pub node : start ≡ node_in g.regions (view_of selection.tiles goal)
 
 -- each view of the group has its node's value
-pub record AreFound (selection : Selection) (rule : CostRule) (goal : Position) (found : Found) : Type 0 where
+pub record AreFound (selection : GroupModel) (rule : WeightsModel) (goal : BoardModel) (found : Found) : Type 0 where
   pub regions : IsRegions selection.grid (length selection.tiles) found.regions
   pub size : length found.values.items ≡ node_count found.regions
-  pub values : (v : Sight) → IsView selection.grid selection.tiles v → IsValue (abstraction_of selection rule) (view_of selection.tiles goal) v (slice_index found.values.items (node_in found.regions v))
+  pub values : (v : ViewModel) → IsView selection.grid selection.tiles v → IsValue (abstraction_of selection rule) (view_of selection.tiles goal) v (slice_index found.values.items (node_in found.regions v))
 
 -- each view has its node's value, of whatever group the graph is, and for whatever goal that the search began at
 abbrev pub AreFoundFrom : Graph → ℕ → Found → Type 0
-AreFoundFrom g start found = (selection : Selection) (rule : CostRule) (goal : Position) → IsSought selection rule goal g start → AreFound selection rule goal found
+AreFoundFrom g start found = (selection : GroupModel) (rule : WeightsModel) (goal : BoardModel) → IsSought selection rule goal g start → AreFound selection rule goal found

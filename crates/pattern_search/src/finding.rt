@@ -1,7 +1,7 @@
 //! The values of nodes: by layers where each tile costs the same, else by buckets.
 
 ghost use Rattle.std.specs.Prelude.{ℕ, ◌≡◌, ◌<◌, ◌↔◌, length, replicate, Some, IfOk};
-ghost use Rattle.pattern_search.specs.Searches.{AreFound, IsTask};
+ghost use Rattle.pattern_search.specs.Searches.{AreFound, IsBuildTask};
 
 use crate::layers::find_by_layers;
 use crate::search::find_by_buckets;
@@ -34,7 +34,7 @@ pub fn find_values(
     goal: &Board,
     weights: &Weights,
 ) -> Result<Found, OutOfMemory>
-    requires { IsTask frame group.now goal.now weights.now }
+    requires { IsBuildTask frame group.now goal.now weights.now }
     ensures { IfOk result (AreFound group.now weights.now goal.now) }
 {
     let graph = Graph::new(frame, group, weights);

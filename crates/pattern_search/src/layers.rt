@@ -1,13 +1,16 @@
 //! The search for the values of nodes where each tile costs the same: layer by layer, since all nodes
 //! that are found in a layer have one value.
 
-ghost use Rattle.std.specs.Prelude.{ℕ, suc, ◌≡◌, ◌+◌, ◌*◌, ◌/◌, ◌<◌, ◌≤◌, length, slice_index, IfOk};
+ghost use Rattle.std.specs.Prelude.{ℕ, suc, ◌≡◌, ◌+◌, ◌*◌, ◌/◌, ◌<◌, ◌≤◌, length, slice_index};
+ghost use Rattle.std.specs.Prelude.{IfOk};
 ghost use Rattle.pattern_index.specs.Laws.{factorial};
 ghost use Rattle.pattern_index.specs.declared.group.TheConstants.{MAX_SIZE};
 ghost use Rattle.pattern_graph.specs.Graphs.{IsOrders, IsSoundGraph};
 ghost use Rattle.pattern_search.specs.Searches.{AreFoundFrom, HasPositions, IsStart};
-ghost use Rattle.pattern_search.specs.Layers.{IsIn, IsUnion, AreBelow, AreLayers, IsAtStart, IsLed, IsMovedFrom};
-ghost use Rattle.pattern_search.specs.Layers.{IsWritten, HasPassed, IsWordPassed, IsRegionPassed, IsLayerPassed};
+ghost use Rattle.pattern_search.specs.Layers.{IsIn, IsUnion, AreBelow, AreLayers, IsAtStart, IsLed};
+ghost use Rattle.pattern_search.specs.Layers.{IsMovedFrom};
+ghost use Rattle.pattern_search.specs.Layers.{IsWritten, HasPassed, IsWordPassed, IsRegionPassed};
+ghost use Rattle.pattern_search.specs.Layers.{IsLayerPassed};
 ghost use Rattle.pattern_search.specs.Layers.{AreLayersWith, IsSetOf, Has, IsNodeSet};
 
 use crate::finding::{Found, NO_VALUE};

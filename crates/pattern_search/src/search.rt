@@ -1,14 +1,17 @@
 //! The search for the values of nodes by buckets of cost: backwards from the goal's node, since each
 //! view move can be taken back at the same cost.
 
-ghost use Rattle.std.specs.Prelude.{◌≡◌, ◌<◌, ◌≤◌, ◌^◌, length, slice_index, IfOk, OnOk, MatchOption};
-ghost use Rattle.board.specs.Positions.{Position};
-ghost use Rattle.board.specs.CostRules.{CostRule};
+ghost use Rattle.std.specs.Prelude.{◌≡◌, ◌<◌, ◌≤◌, ◌^◌, length, slice_index, IfOk, OnOk};
+ghost use Rattle.std.specs.Prelude.{MatchOption};
+ghost use Rattle.board.specs.Boards.{BoardModel};
+ghost use Rattle.board.specs.Weights.{WeightsModel};
 ghost use Rattle.pattern_index.specs.Laws.{factorial};
-ghost use Rattle.pattern_index.specs.Selections.{Selection};
+ghost use Rattle.pattern_index.specs.Groups.{GroupModel};
 ghost use Rattle.pattern_graph.specs.Graphs.{node_count, IsSoundGraph, target};
-ghost use Rattle.pattern_search.specs.Searches.{IsStart, IsSought, IsFit, IsFresh, IsLowered, AreFoundFrom, IsPassed};
-ghost use Rattle.pattern_search.specs.Searches.{HasPositions, IsVisited, IsGrown, IsPut, IsTaken, waiting_count};
+ghost use Rattle.pattern_search.specs.Searches.{IsStart, IsSought, IsFit, IsFresh, IsLowered};
+ghost use Rattle.pattern_search.specs.Searches.{AreFoundFrom, IsPassed};
+ghost use Rattle.pattern_search.specs.Searches.{HasPositions, IsVisited, IsGrown, IsPut, IsTaken};
+ghost use Rattle.pattern_search.specs.Searches.{waiting_count};
 
 use crate::finding::{Found, NO_VALUE};
 use memory::{OutOfMemory, filled, push};
@@ -108,7 +111,7 @@ pub(crate) fn find_by_buckets(
     start: usize,
 ) -> Result<Found, OutOfMemory>
     requires start { IsStart graph start }
-    requires sought { (selection : Selection) × (rule : CostRule) × (goal : Position)
+    requires sought { (selection : GroupModel) × (rule : WeightsModel) × (goal : BoardModel)
         × IsSought selection rule goal graph start }
     ensures { IfOk result (AreFoundFrom graph start) }
 {

@@ -8,7 +8,7 @@ use Rattle.world_model.specs.Books.{BookState}
 -- The limit, the number of workers, and the want of a stop for memory are such as the way of counting allows. At most the limit is
 -- granted. A stop by Quiet means that no credit is left, one by Limit that all of the limit is granted. No floor is below the limit of
 -- the best cost.
-pub record IsLawful (allows_limit allows_workers : ℕ → Type 0) (allows_want : Want → Type 0) (book : BookState) : Type 0 where
+pub record IsLawfulBook (allows_limit allows_workers : ℕ → Type 0) (allows_want : Want → Type 0) (book : BookState) : Type 0 where
   pub limit : allows_limit book.limit
   pub workers : allows_workers (length book.floors)
   pub within_limit : book.granted ≤ book.limit

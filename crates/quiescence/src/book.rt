@@ -6,7 +6,8 @@ ghost use Rattle.outcomes.specs.declared.outcome.Want.{Want};
 ghost use Rattle.world_model.specs.Turns.{turn, refusal_in};
 ghost use Rattle.world_model.specs.Costs.{IsNotBelow, limit_of};
 ghost use Rattle.world_model.specs.Books.{grant_of};
-ghost use Rattle.world_model.specs.BookCalls.{BookDraw, BookAnnounce, BookGrant, BookRest, BookHalt};
+ghost use Rattle.world_model.specs.BookCalls.{BookDraw, BookAnnounce, BookGrant, BookRest};
+ghost use Rattle.world_model.specs.BookCalls.{BookHalt};
 ghost use Rattle.quiescence.specs.Answers.{account, rested};
 
 use arrayvec::ArrayVec;
@@ -42,7 +43,7 @@ pub struct Book<C: Counting> {
 
 impl<C: Counting> Model for Book<C> {
     ghost use Rattle.world_model.specs.Books.{BookState};
-    ghost use Rattle.quiescence.specs.Lawful.{IsLawful};
+    ghost use Rattle.quiescence.specs.Lawful.{IsLawfulBook};
 
     ghost Value = { BookState };
 
@@ -55,7 +56,7 @@ impl<C: Counting> Model for Book<C> {
       stop = b.stop;
     } };
 
-    ghost invariant = { λ b. IsLawful C.allows_limit C.allows_workers C.allows_want (record {
+    ghost invariant = { λ b. IsLawfulBook C.allows_limit C.allows_workers C.allows_want (record {
       credit = b.credit;
       best = b.best;
       floors = b.floors.items;

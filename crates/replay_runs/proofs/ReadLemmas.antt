@@ -4,7 +4,7 @@ use Rattle.std.proofs.KnownBytes.{Appends-nil, Appends-trans}
 use Rattle.byte_streams.specs.Streams.{SourceState, SinkState, Change, from_to}
 use Rattle.byte_streams.specs.declared.source.ReadFailed.{ReadFailed}
 use Rattle.batch_lines.specs.Lines.{is_passed_over, without_return}
-use Rattle.batch_lines.specs.Readings.{IsJudged, Reading, ReadsLine}
+use Rattle.batch_lines.specs.Readings.{IsJudged, LineReaderModel, ReadsLine}
 use Rattle.batch_lines.specs.declared.lines.Line.{Line}
 use Rattle.batch_lines.specs.declared.lines.LineKind.TheVariants.{PassedOver, Within, TooLong}
 use Rattle.batch_runs.specs.Batches.{HasFailed}
@@ -21,8 +21,8 @@ use Rattle.world_model.specs.Steps.{IsRun}
 use Rattle.replay_runs.specs.Replies.{Reply, replies_text, status_of, TextSays, RepliesToText, RepliesToKind, RepliesTo, RepliesToEach, Changes, steps_of, reply_text, reply_to, is_fine, are_fine}
 use Rattle.replay_runs.specs.Replies.Reply.{passed_over, no_step, taken}
 use Rattle.batch_runs.specs.declared.faults.LinesFault.TheVariants.{Read, Write, Memory}
-use Rattle.replay_runs.specs.Stepping.{IsReplied, IsReportOf, AnswersLines, Finishes}
-use Rattle.board.specs.Positions.{Position}
+use Rattle.replay_runs.specs.Stepping.{IsReplied, IsReportOf, RepliesToLines, Finishes}
+use Rattle.board.specs.Boards.{BoardModel}
 use Rattle.batch_lines.specs.Words.{IsEntry, IsFirstEntryFault, entry_code}
 use Rattle.batch_lines.specs.declared.words.EntryFault.{EntryFault}
 use Rattle.outcomes.specs.declared.outcome.Outcome.{Outcome}
@@ -31,7 +31,7 @@ use Rattle.reports.specs.Reports.{outcome_data, refused_data, report_text}
 use Rattle.world_model.specs.Laws.{RunsAnswer}
 use Rattle.batch_runs.specs.Meanings.{Names}
 use Rattle.batch_runs.specs.declared.faults.LinesFault.{LinesFault}
-use Rattle.replay_runs.specs.Replays.{Jobs, IsWithin, OpensRun, IsRefusedBy, IsPlay, IsEnd, Replays, Refuses}
+use Rattle.replay_runs.specs.Replays.{Jobs, IsReadLine, OpensRun, IsLineRefusedBy, IsPlay, IsEnd, Replays, ReportsRefusal}
 
 -- ---- one reply more
 
@@ -96,7 +96,7 @@ long_said TooLong bytes here long = refl
 -- ---- lines that are answered
 
 -- so many lines were read and replied to, and the replies are written
-pub record IsAnswering (source : Change SourceState) (reader : Change Reading) (world : Change WorldState) (sink : Change SinkState) (fine : Bool) : Type 0 where
+pub record IsAnswering (source : Change SourceState) (reader : Change LineReaderModel) (world : Change WorldState) (sink : Change SinkState) (fine : Bool) : Type 0 where
   pub later : List (List ℕ)
   pub replies : List Reply
   pub read : (begun : SourceState) (lines : List (List ℕ)) → HasRead (from_to begun source.before) reader.before lines → HasRead (from_to begun source.after) reader.after (lines ++ later)
@@ -104,7 +104,7 @@ pub record IsAnswering (source : Change SourceState) (reader : Change Reading) (
   pub written : Puts sink (replies_text replies)
   pub said : fine ≡ are_fine replies
 
-pub answering_begins : (a : SourceState) (r : Reading) (w : WorldState) (x : SinkState) → IsAnswering (from_to a a) (from_to r r) (from_to w w) (from_to x x) true
+pub answering_begins : (a : SourceState) (r : LineReaderModel) (w : WorldState) (x : SinkState) → IsAnswering (from_to a a) (from_to r r) (from_to w w) (from_to x x) true
 answering_begins a r w x = record {
   later = [];
   replies = [];
@@ -115,18 +115,18 @@ answering_begins a r w x = record {
 }
 
 -- a line is read and replied to
-pub record IsOneMore (source : Change SourceState) (reader : Change Reading) (world : Change WorldState) (reply : Reply) : Type 0 where
+pub record IsOneMore (source : Change SourceState) (reader : Change LineReaderModel) (world : Change WorldState) (reply : Reply) : Type 0 where
   pub line : Line
   pub read : ReadsLine source reader (Ok (Some line))
   pub is : RepliesToKind line.kind reader.after.kept reply
   pub changes : Changes world reply
 
 -- the lines so far, and one more
-has_more : (begun a b c : SourceState) (q r s : Reading) (later lines : List (List ℕ)) (line : Line) → ((start : SourceState) (before : List (List ℕ)) → HasRead (from_to start a) q before → HasRead (from_to start b) r (before ++ later)) → (read : ReadsLine (from_to b c) (from_to r s) (Ok (Some line))) → HasRead (from_to begun a) q lines → HasRead (from_to begun c) s (lines ++ (later ++ read.0 ∷ []))
+has_more : (begun a b c : SourceState) (q r s : LineReaderModel) (later lines : List (List ℕ)) (line : Line) → ((start : SourceState) (before : List (List ℕ)) → HasRead (from_to start a) q before → HasRead (from_to start b) r (before ++ later)) → (read : ReadsLine (from_to b c) (from_to r s) (Ok (Some line))) → HasRead (from_to begun a) q lines → HasRead (from_to begun c) s (lines ++ (later ++ read.0 ∷ []))
 has_more begun a b c q r s later lines line so_far read has =
     subst (λ (ls : List (List ℕ)). HasRead (from_to begun c) s ls) (append_assoc lines later (read.0 ∷ [])) (HasRead-more begun b c r s (lines ++ later) line (so_far begun lines has) read)
 
-pub answering_on : (a b c : SourceState) (q r s : Reading) (w v u : WorldState) (x y z : SinkState) (fine : Bool) (reply : Reply) → IsAnswering (from_to a b) (from_to q r) (from_to w v) (from_to x y) fine → IsOneMore (from_to b c) (from_to r s) (from_to v u) reply → Puts (from_to y z) (reply_text reply) → IsAnswering (from_to a c) (from_to q s) (from_to w u) (from_to x z) (is_fine reply && fine)
+pub answering_on : (a b c : SourceState) (q r s : LineReaderModel) (w v u : WorldState) (x y z : SinkState) (fine : Bool) (reply : Reply) → IsAnswering (from_to a b) (from_to q r) (from_to w v) (from_to x y) fine → IsOneMore (from_to b c) (from_to r s) (from_to v u) reply → Puts (from_to y z) (reply_text reply) → IsAnswering (from_to a c) (from_to q s) (from_to w u) (from_to x z) (is_fine reply && fine)
 answering_on a b c q r s w v u x y z fine reply answering next put = record {
   later = answering.later ++ next.read.0 ∷ [];
   replies = answering.replies ++ reply ∷ [];
@@ -137,8 +137,8 @@ answering_on a b c q r s w v u x y z fine reply answering next put = record {
 }
 
 -- the reply to one line more is written in part
-pub answers_fail : (a b c : SourceState) (q r s : Reading) (w v u : WorldState) (x y z : SinkState) (fine : Bool) (reply : Reply) → IsAnswering (from_to a b) (from_to q r) (from_to w v) (from_to x y) fine → IsOneMore (from_to b c) (from_to r s) (from_to v u) reply → PutsBeginning (from_to y z) (reply_text reply) → c.has_failed ≡ false → HasFailed z
-    → (begun : SourceState) (lines : List (List ℕ)) → HasRead (from_to begun a) q lines → AnswersLines (from_to begun c) lines (from_to w u) (from_to x z) (Err Write)
+pub answers_fail : (a b c : SourceState) (q r s : LineReaderModel) (w v u : WorldState) (x y z : SinkState) (fine : Bool) (reply : Reply) → IsAnswering (from_to a b) (from_to q r) (from_to w v) (from_to x y) fine → IsOneMore (from_to b c) (from_to r s) (from_to v u) reply → PutsBeginning (from_to y z) (reply_text reply) → c.has_failed ≡ false → HasFailed z
+    → (begun : SourceState) (lines : List (List ℕ)) → HasRead (from_to begun a) q lines → RepliesToLines (from_to begun c) lines (from_to w u) (from_to x z) (Err Write)
 answers_fail a b c q r s w v u x y z fine reply answering next begins readable failed begun lines has =
     let now = has_more begun a b c q r s answering.later lines next.line answering.read next.read has in (
       answering.later ++ next.read.0 ∷ [],
@@ -151,14 +151,14 @@ answers_fail a b c q r s w v u x y z fine reply answering next begins readable f
     )
 
 -- no line is left
-pub answers_end : (a b c : SourceState) (q r s : Reading) (w v : WorldState) (x y : SinkState) (fine : Bool) → IsAnswering (from_to a b) (from_to q r) (from_to w v) (from_to x y) fine → ReadsLine (from_to b c) (from_to r s) (Ok None) → y.has_failed ≡ x.has_failed
-    → (begun : SourceState) (lines : List (List ℕ)) → HasRead (from_to begun a) q lines → AnswersLines (from_to begun c) lines (from_to w v) (from_to x y) (Ok fine)
+pub answers_end : (a b c : SourceState) (q r s : LineReaderModel) (w v : WorldState) (x y : SinkState) (fine : Bool) → IsAnswering (from_to a b) (from_to q r) (from_to w v) (from_to x y) fine → ReadsLine (from_to b c) (from_to r s) (Ok None) → y.has_failed ≡ x.has_failed
+    → (begun : SourceState) (lines : List (List ℕ)) → HasRead (from_to begun a) q lines → RepliesToLines (from_to begun c) lines (from_to w v) (from_to x y) (Ok fine)
 answers_end a b c q r s w v x y fine answering read kept begun lines has =
     (answering.later, answering.replies, HasRead-end begun b c r s (lines ++ answering.later) (answering.read begun lines has) read, answering.replied, answering.written, answering.said, read.3.0.1, kept)
 
 -- the next line is lost
-pub answers_lost : (a b c : SourceState) (q r s : Reading) (w v : WorldState) (x y : SinkState) (fine : Bool) (failure : ReadFailed) → IsAnswering (from_to a b) (from_to q r) (from_to w v) (from_to x y) fine → ReadsLine (from_to b c) (from_to r s) (Err failure) → y.has_failed ≡ x.has_failed
-    → (begun : SourceState) (lines : List (List ℕ)) → HasRead (from_to begun a) q lines → AnswersLines (from_to begun c) lines (from_to w v) (from_to x y) (Err Read)
+pub answers_lost : (a b c : SourceState) (q r s : LineReaderModel) (w v : WorldState) (x y : SinkState) (fine : Bool) (failure : ReadFailed) → IsAnswering (from_to a b) (from_to q r) (from_to w v) (from_to x y) fine → ReadsLine (from_to b c) (from_to r s) (Err failure) → y.has_failed ≡ x.has_failed
+    → (begun : SourceState) (lines : List (List ℕ)) → HasRead (from_to begun a) q lines → RepliesToLines (from_to begun c) lines (from_to w v) (from_to x y) (Err Read)
 answers_lost a b c q r s w v x y fine failure answering lost kept begun lines has =
     (answering.later, answering.replies, HasRead-lost begun b c r s (lines ++ answering.later) failure (answering.read begun lines has) lost, answering.replied, answering.written, kept)
 
@@ -176,13 +176,13 @@ step_said kind bytes (Some step) refusal is says = subst (λ (k : LineKind). Rep
 -- ---- the report of the outcome
 
 -- the report is written behind the replies
-pub finishes : (source : Change SourceState) (lines : List (List ℕ)) (w v : WorldState) (x y z : SinkState) (id : List ℕ) (fine : Bool) (outcome : Outcome) (status : ℕ) → AnswersLines source lines (from_to w v) (from_to x y) (Ok fine) → IsReportOf v outcome → WritesAll (from_to y z) (report_text (outcome_data id (without_rows outcome))) → status ≡ status_of fine (without_rows outcome)
+pub finishes : (source : Change SourceState) (lines : List (List ℕ)) (w v : WorldState) (x y z : SinkState) (id : List ℕ) (fine : Bool) (outcome : Outcome) (status : ℕ) → RepliesToLines source lines (from_to w v) (from_to x y) (Ok fine) → IsReportOf v outcome → WritesAll (from_to y z) (report_text (outcome_data id (without_rows outcome))) → status ≡ status_of fine (without_rows outcome)
     → Finishes source lines w id (from_to x z) (Ok status)
 finishes source lines w v x y z id fine outcome status (later, replies, all, replied, put, said, readable, kept) given written is =
     (later, replies, v, outcome, all, replied, given, Appends-trans x.contents y.contents z.contents (replies_text replies) (report_text (outcome_data id (without_rows outcome))) put written.0, is ∙ ap (λ (b : Bool). status_of b (without_rows outcome)) said, readable, written.1.1 ∙ sym written.1.0 ∙ kept)
 
 -- a beginning of it is
-pub finishes_part : (source : Change SourceState) (lines : List (List ℕ)) (w v : WorldState) (x y z : SinkState) (id : List ℕ) (fine : Bool) (outcome : Outcome) → AnswersLines source lines (from_to w v) (from_to x y) (Ok fine) → IsReportOf v outcome → FailsWriting (from_to y z) (report_text (outcome_data id (without_rows outcome)))
+pub finishes_part : (source : Change SourceState) (lines : List (List ℕ)) (w v : WorldState) (x y z : SinkState) (id : List ℕ) (fine : Bool) (outcome : Outcome) → RepliesToLines source lines (from_to w v) (from_to x y) (Ok fine) → IsReportOf v outcome → FailsWriting (from_to y z) (report_text (outcome_data id (without_rows outcome)))
     → Finishes source lines w id (from_to x z) (Err Write)
 finishes_part source lines w v x y z id fine outcome (later, replies, all, replied, put, said, readable, kept) given failed =
     inr (later, replies, v, outcome, all, replied, given, PutsBeginning-after x y z (replies_text replies) (report_text (outcome_data id (without_rows outcome))) put failed.0, readable, failed.1)
@@ -202,7 +202,7 @@ line_short line kept kind judged within =
     grind arith
 
 -- a refusal is written for the board line
-pub refused : (jobs : Jobs) (a b : SourceState) (x y : SinkState) (passed : List (List ℕ)) (line code : List ℕ) (n : ℕ) (result : Result ℕ LinesFault) → FindsFirst (from_to a b) passed line → IsRefusedBy jobs line code → n ≡ length passed + 1 → b.has_failed ≡ false → Refuses (from_to x y) code n result → Replays jobs (from_to a b) (from_to x y) result
+pub refused : (jobs : Jobs) (a b : SourceState) (x y : SinkState) (passed : List (List ℕ)) (line code : List ℕ) (n : ℕ) (result : Result ℕ LinesFault) → FindsFirst (from_to a b) passed line → IsLineRefusedBy jobs line code → n ≡ length passed + 1 → b.has_failed ≡ false → ReportsRefusal (from_to x y) code n result → Replays jobs (from_to a b) (from_to x y) result
 refused jobs a b x y passed line code n (Ok status) first cause at readable (written, is) =
     (inr (inl (report_text (refused_data code n), record { passed = passed; line = line; code = code; first = first; cause = cause; text = ap (λ (k : ℕ). report_text (refused_data code k)) at }, written.0, is)), readable, written.1.1 ∙ sym written.1.0)
 refused jobs a b x y passed line code n (Err Read) first cause at readable never = absurd never
@@ -213,21 +213,21 @@ refused jobs a b x y passed line code n (Err (Memory lacking)) first cause at re
     (inl (report_text (refused_data code n), record { passed = passed; line = line; code = code; first = first; cause = cause; text = ap (λ (k : ℕ). report_text (refused_data code k)) at }, none), readable, ap (λ (s : SinkState). s.has_failed) same)
 
 -- a line that is neither passed over nor to be read is too long
-pub refused_long : (jobs : Jobs) (line kept : List ℕ) (kind : LineKind) → IsJudged line kind kept → ¬ IsPassedOver line → kind ≢ Within → IsRefusedBy jobs line (codes "E12")
+pub refused_long : (jobs : Jobs) (line kept : List ℕ) (kind : LineKind) → IsJudged line kind kept → ¬ IsPassedOver line → kind ≢ Within → IsLineRefusedBy jobs line (codes "E12")
 refused_long jobs line kept PassedOver judged here long = absurd (here (sym judged.judged))
 refused_long jobs line kept Within judged here long = absurd (long refl)
 refused_long jobs line kept TooLong judged here long = inl (inl (sym judged.judged, refl))
 
 -- the bytes that were kept of a line that is to be read are its own
-pub within_bytes : (line kept bytes : List ℕ) (kind : LineKind) → IsJudged line kind kept → kind ≡ Within → bytes ≡ kept → IsWithin line bytes
+pub within_bytes : (line kept bytes : List ℕ) (kind : LineKind) → IsJudged line kind kept → kind ≡ Within → bytes ≡ kept → IsReadLine line bytes
 within_bytes line kept bytes kind judged within same = (sym judged.judged ∙ within, same ∙ judged.whole within)
 
 -- a line that is to be read has a first fault
-pub refused_fault : (jobs : Jobs) (line bytes : List ℕ) (fault : EntryFault) → IsWithin line bytes → IsFirstEntryFault jobs.grid bytes fault → IsRefusedBy jobs line (entry_code fault)
+pub refused_fault : (jobs : Jobs) (line bytes : List ℕ) (fault : EntryFault) → IsReadLine line bytes → IsFirstEntryFault jobs.grid bytes fault → IsLineRefusedBy jobs line (entry_code fault)
 refused_fault jobs line bytes fault (within, same) first = inl (inr (within, (fault, subst (λ (bs : List ℕ). IsFirstEntryFault jobs.grid bs fault) same first, refl)))
 
 -- it names a board
-pub names_by : (jobs : Jobs) (line bytes id : List ℕ) (board : Position) → IsWithin line bytes → IsEntry jobs.grid bytes id board → Names jobs.grid line id board
+pub names_by : (jobs : Jobs) (line bytes id : List ℕ) (board : BoardModel) → IsReadLine line bytes → IsEntry jobs.grid bytes id board → Names jobs.grid line id board
 names_by jobs line bytes id board (within, same) entry = (within, subst (λ (bs : List ℕ). IsEntry jobs.grid bs id board) same entry)
 
 -- ---- a play

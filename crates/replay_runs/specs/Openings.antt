@@ -1,12 +1,12 @@
 -- What the runs of a setup's boards rest on.
 use Rattle.std.specs.Prelude.{ℕ}
-use Rattle.board.specs.Positions.{Position}
+use Rattle.board.specs.Boards.{BoardModel}
 use Rattle.memory.specs.declared.OutOfMemory.{OutOfMemory}
-use Rattle.batch_runs.specs.Setups.{SetupState, owner_by, task_of}
+use Rattle.batch_runs.specs.Setups.{SetupModel, owner_by, task_of}
 use Rattle.replay_runs.specs.Replays.{Jobs}
 
 -- The jobs of a setup's boards, where boards have these owners among each number of workers. Memory is refused where a growth was.
-abbrev pub jobs_by : (ℕ → Position → ℕ) → SetupState → Jobs
+abbrev pub jobs_by : (ℕ → BoardModel → ℕ) → SetupModel → Jobs
 jobs_by owner_among setup = record {
   grid = setup.goal.grid;
   job = λ start. record {
@@ -19,5 +19,5 @@ jobs_by owner_among setup = record {
 }
 
 -- the same by the owners that the setup names
-abbrev pub setup_jobs : SetupState → Jobs
+abbrev pub setup_jobs : SetupModel → Jobs
 setup_jobs setup = jobs_by (owner_by setup.spread) setup

@@ -1,8 +1,8 @@
 -- What is written for a replay: a board line, and the lines of steps behind it.
 use Rattle.std.specs.Prelude.{ℕ, ◌≡◌, ◌⊎◌, ◌+◌, List, [], ◌∷◌, ◌++◌, length, Result, Ok, Err, All, codes}
 use Rattle.board.specs.declared.moves.Move.{Move}
-use Rattle.board.specs.Grids.{Grid}
-use Rattle.board.specs.Positions.{Position}
+use Rattle.board.specs.Shapes.{ShapeModel}
+use Rattle.board.specs.Boards.{BoardModel}
 use Rattle.board.specs.Rows.{IsLowerBound}
 use Rattle.byte_streams.specs.Streams.{SourceState, SinkState, Change, from_to}
 use Rattle.byte_streams.specs.Sink.{Puts, PutsBeginning, WritesAll, FailsWriting}
@@ -24,9 +24,9 @@ use Rattle.replay_runs.specs.Stepping.{IsReplied, IsReportOf, output_of}
 
 -- the shape of the boards, the job that a board starts, and when memory is wanting before its first step
 pub record Jobs : Type 1 where
-  pub grid : Grid
-  pub job : Position → Job
-  pub lacks : Position → Type 0
+  pub grid : ShapeModel
+  pub job : BoardModel → Job
+  pub lacks : BoardModel → Type 0
 
 -- the job is one, and the sums that guide it are never above the cost of a plan
 abbrev pub IsGuidedJob : Job → Type 0
@@ -35,17 +35,17 @@ IsGuidedJob job = IsJob job × IsLowerBound job.task.rule job.task.sum job.task.
 -- ---- the board line
 
 -- the line has a fault with this code; or it names a board, and memory was wanting
-abbrev pub IsRefusedBy : Jobs → List ℕ → List ℕ → Type 0
-IsRefusedBy jobs line code =
-    HasFault jobs.grid line code ⊎ ((id : List ℕ) × (board : Position) × Names jobs.grid line id board × jobs.lacks board × (code ≡ codes "V3"))
+abbrev pub IsLineRefusedBy : Jobs → List ℕ → List ℕ → Type 0
+IsLineRefusedBy jobs line code =
+    HasFault jobs.grid line code ⊎ ((id : List ℕ) × (board : BoardModel) × Names jobs.grid line id board × jobs.lacks board × (code ≡ codes "V3"))
 
 -- the line is to be read, and these are its bytes
-abbrev pub IsWithin : List ℕ → List ℕ → Type 0
-IsWithin line bytes = (kind_of line ≡ Within) × (bytes ≡ without_return line)
+abbrev pub IsReadLine : List ℕ → List ℕ → Type 0
+IsReadLine line bytes = (kind_of line ≡ Within) × (bytes ≡ without_return line)
 
 -- the line names a board by this id, and the board's job opens with this world
 pub record OpensRun (jobs : Jobs) (line id : List ℕ) (w : WorldState) : Type 0 where
-  pub board : Position
+  pub board : BoardModel
   pub via : Move
   pub named : Names jobs.grid line id board
   pub opens : w ≡ opening (jobs.job board) via
@@ -57,7 +57,7 @@ pub record RefusesFirst (jobs : Jobs) (source : Change SourceState) (output : Li
   pub line : List ℕ
   pub code : List ℕ
   pub first : FindsFirst source passed line
-  pub cause : IsRefusedBy jobs line code
+  pub cause : IsLineRefusedBy jobs line code
   pub text : output ≡ report_text (refused_data code (length passed + 1))
 
 -- Of these lines the first ones are passed over, the next one names a board by this id, and the later ones are replied to in a run of the
@@ -66,7 +66,7 @@ pub record IsPlay (jobs : Jobs) (lines : List (List ℕ)) (id : List ℕ) (repli
   pub passed : List (List ℕ)
   pub line : List ℕ
   pub later : List (List ℕ)
-  pub board : Position
+  pub board : BoardModel
   pub via : Move
   pub parts : lines ≡ passed ++ line ∷ later
   pub before : All IsPassedOver passed
@@ -83,8 +83,8 @@ pub record IsEnd (jobs : Jobs) (lines : List (List ℕ)) (id : List ℕ) (replie
 -- ---- what a replay reads and writes
 
 -- every line is passed over, and nothing was written
-abbrev pub PassesAll : Change SourceState → Change SinkState → ℕ → Type 0
-PassesAll source sink status = (lines : List (List ℕ)) × AreAll source.before.left lines × All IsPassedOver lines × Puts sink [] × (status ≡ 0)
+abbrev pub WritesNothing : Change SourceState → Change SinkState → ℕ → Type 0
+WritesNothing source sink status = (lines : List (List ℕ)) × AreAll source.before.left lines × All IsPassedOver lines × Puts sink [] × (status ≡ 0)
 
 -- the board line is refused, nothing behind it was read, and its report was written
 abbrev pub WritesRefusal : Jobs → Change SourceState → Change SinkState → ℕ → Type 0
@@ -119,7 +119,7 @@ LacksReport jobs source sink =
 -- How a replay ends.
 abbrev pub Replays : Jobs → Change SourceState → Change SinkState → Result ℕ LinesFault → Type 0
 Replays jobs source sink (Ok status) =
-    (PassesAll source sink status ⊎ WritesRefusal jobs source sink status ⊎ WritesPlay jobs source sink status) × IsReadable source × KeepsFailure sink
+    (WritesNothing source sink status ⊎ WritesRefusal jobs source sink status ⊎ WritesPlay jobs source sink status) × IsReadable source × KeepsFailure sink
 Replays jobs source sink (Err Read) = LosesReplay jobs source sink × KeepsFailure sink
 Replays jobs source sink (Err Write) = BeginsReplay jobs source sink × IsReadable source × HasFailed sink.after
 Replays jobs source sink (Err (Memory lacking)) = LacksReport jobs source sink × IsReadable source × KeepsFailure sink
@@ -127,8 +127,8 @@ Replays jobs source sink (Err (Memory lacking)) = LacksReport jobs source sink �
 -- ---- a refusal
 
 -- the report of line n with this code was written; or writing it failed, or memory was wanting for it
-abbrev pub Refuses : Change SinkState → List ℕ → ℕ → Result ℕ LinesFault → Type 0
-Refuses sink code n (Ok status) = WritesAll sink (report_text (refused_data code n)) × (status ≡ 1)
-Refuses sink code n (Err Read) = ⊥
-Refuses sink code n (Err Write) = FailsWriting sink (report_text (refused_data code n))
-Refuses sink code n (Err (Memory lacking)) = sink.after ≡ sink.before
+abbrev pub ReportsRefusal : Change SinkState → List ℕ → ℕ → Result ℕ LinesFault → Type 0
+ReportsRefusal sink code n (Ok status) = WritesAll sink (report_text (refused_data code n)) × (status ≡ 1)
+ReportsRefusal sink code n (Err Read) = ⊥
+ReportsRefusal sink code n (Err Write) = FailsWriting sink (report_text (refused_data code n))
+ReportsRefusal sink code n (Err (Memory lacking)) = sink.after ≡ sink.before

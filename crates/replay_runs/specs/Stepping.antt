@@ -4,7 +4,7 @@ use Rattle.byte_streams.specs.Streams.{SourceState, SinkState, Change, from_to}
 use Rattle.byte_streams.specs.Sink.{Puts, PutsBeginning}
 use Rattle.outcomes.specs.declared.outcome.Outcome.{Outcome}
 use Rattle.outcomes.specs.Endings.{without_rows}
-use Rattle.reports.specs.Readings.{AreSmall}
+use Rattle.reports.specs.Readings.{HasSmallNumbers}
 use Rattle.reports.specs.Reports.{outcome_data, report_text}
 use Rattle.world_model.specs.Worlds.{WorldState}
 use Rattle.world_model.specs.Steps.{IsRun}
@@ -21,23 +21,23 @@ pub record IsReplied (world : Change WorldState) (later : List (List ℕ)) (repl
 
 -- the outcome that a world gives, whose numbers a report can tell
 abbrev pub IsReportOf : WorldState → Outcome → Type 0
-IsReportOf w outcome = IsGiven w outcome × AreSmall (without_rows outcome)
+IsReportOf w outcome = IsGiven w outcome × HasSmallNumbers (without_rows outcome)
 
 -- the replies, and then the report of the outcome by this id, without its rows
 abbrev pub output_of : List Reply → List ℕ → Outcome → List ℕ
 output_of replies id outcome = replies_text replies ++ report_text (outcome_data id (without_rows outcome))
 
 -- Behind the lines before all later ones were read, and the replies to them written; or a line was lost behind them; or writing failed.
-abbrev pub AnswersLines : Change SourceState → List (List ℕ) → Change WorldState → Change SinkState → Result Bool LinesFault → Type 0
-AnswersLines source lines world sink (Ok fine) =
+abbrev pub RepliesToLines : Change SourceState → List (List ℕ) → Change WorldState → Change SinkState → Result Bool LinesFault → Type 0
+RepliesToLines source lines world sink (Ok fine) =
     (later : List (List ℕ)) × (replies : List Reply) × AreAll source.before.left (lines ++ later) × IsReplied world later replies
     × Puts sink (replies_text replies) × (fine ≡ are_fine replies) × IsReadable source × KeepsFailure sink
-AnswersLines source lines world sink (Err Read) =
+RepliesToLines source lines world sink (Err Read) =
     (later : List (List ℕ)) × (replies : List Reply) × LosesLine source (lines ++ later) × IsReplied world later replies × Puts sink (replies_text replies) × KeepsFailure sink
-AnswersLines source lines world sink (Err Write) =
+RepliesToLines source lines world sink (Err Write) =
     (later : List (List ℕ)) × (replies : List Reply) × AreFirst source.before.left (lines ++ later) × IsReplied world later replies
     × PutsBeginning sink (replies_text replies) × IsReadable source × HasFailed sink.after
-AnswersLines source lines world sink (Err (Memory lacking)) = ⊥
+RepliesToLines source lines world sink (Err (Memory lacking)) = ⊥
 
 -- Then the report was written, of an outcome that the world gives; or memory was wanting for it. A fault before it is that of a line.
 abbrev pub Finishes : Change SourceState → List (List ℕ) → WorldState → List ℕ → Change SinkState → Result ℕ LinesFault → Type 0

@@ -5,8 +5,9 @@ ghost use Rattle.board.specs.declared.moves.Move.{Move};
 ghost use Rattle.byte_streams.specs.Streams.{change};
 ghost use Rattle.world_model.specs.Openings.{opening};
 ghost use Rattle.batch_runs.specs.Batches.{HasFailed};
-ghost use Rattle.replay_runs.specs.Replays.{Jobs, IsGuidedJob, IsWithin, OpensRun, IsRefusedBy};
-ghost use Rattle.replay_runs.specs.Replays.{Replays, Refuses};
+ghost use Rattle.replay_runs.specs.Replays.{Jobs, IsGuidedJob, IsReadLine, OpensRun};
+ghost use Rattle.replay_runs.specs.Replays.{IsLineRefusedBy};
+ghost use Rattle.replay_runs.specs.Replays.{Replays, ReportsRefusal};
 
 use crate::sending::send;
 use crate::stepping::{Opened, Run, replay_steps};
@@ -81,10 +82,10 @@ fn open_run<'a, R: Run + Drop, O: Opener<R> + Drop>(
     bytes: &'a [u8],
 ) -> Result<Opened<'a, R>, &'static str>
     requires { (O.jobs opener).grid ≡ shape }
-    ensures opened { IfOk result (λ opened. (line : List ℕ) → IsWithin line bytes.entry.now
+    ensures opened { IfOk result (λ opened. (line : List ℕ) → IsReadLine line bytes.entry.now
         → OpensRun (O.jobs opener) line opened.id.now (R.world opened.run)) }
-    ensures refused { IfErr result (λ code. (line : List ℕ) → IsWithin line bytes.entry.now
-        → IsRefusedBy (O.jobs opener) line code.now) }
+    ensures refused { IfErr result (λ code. (line : List ℕ) → IsReadLine line bytes.entry.now
+        → IsLineRefusedBy (O.jobs opener) line code.now) }
 {
     let entry = match read_entry(shape, bytes) {
         Ok(entry) => entry,
@@ -98,7 +99,7 @@ fn open_run<'a, R: Run + Drop, O: Opener<R> + Drop>(
 
 // Writes the report of a line that is refused. Answers the status 1.
 fn refuse<K: Sink>(alloc: Global, sink: &mut K, code: &str, number: u64) -> Result<u8, LinesFault>
-    ensures refuses { Refuses (change K.state sink.old sink.new) code.now number result }
+    ensures refuses { ReportsRefusal (change K.state sink.old sink.new) code.now number result }
     ensures flushed { K.is_flushed sink.new ⊎ (sink.new ≡ sink.old)
         ⊎ HasFailed (K.state sink.new) }
 {

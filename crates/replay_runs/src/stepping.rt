@@ -12,7 +12,7 @@ ghost use Rattle.batch_runs.specs.Batches.{HasFailed};
 ghost use Rattle.batch_runs.specs.FirstLines.{HasRead};
 ghost use Rattle.replay_runs.specs.Replies.{RepliesToKind, Changes, WritesReply, WritesLine};
 ghost use Rattle.replay_runs.specs.Replies.{reply_to, line_of, status_of};
-ghost use Rattle.replay_runs.specs.Stepping.{AnswersLines, Finishes};
+ghost use Rattle.replay_runs.specs.Stepping.{RepliesToLines, Finishes};
 
 use crate::sending::{send, send_word};
 use batch_lines::{Line, LineKind, LineReader};
@@ -99,7 +99,7 @@ fn answer_lines<S: Source, K: Sink, R: Run>(
 ) -> Result<bool, LinesFault>
     ensures answers { (begun : SourceState) (lines : List (List ℕ))
         → HasRead (from_to begun (S.state source.old)) reader.old lines
-        → AnswersLines (from_to begun (S.state source.new)) lines
+        → RepliesToLines (from_to begun (S.state source.new)) lines
         (change R.world run.old run.new) (change K.state sink.old sink.new) result }
     ensures flushed { K.is_flushed sink.new ⊎ (sink.new ≡ sink.old)
         ⊎ HasFailed (K.state sink.new) }

@@ -19,7 +19,7 @@ use Rattle.outcomes.specs.declared.outcome.Ending.{Ending}
 use Rattle.outcomes.specs.declared.outcome.Ending.TheVariants.{Optimal, Unsolvable, Bounded}
 use Rattle.reports.specs.Reports.{outcome_data, refused_data, accepted_data, accepted_bound_data, refused_certificate_data, report_text, best_data}
 use Rattle.reports.specs.Readings.IsReport.{of_outcome, of_line, of_cost, of_bound, of_certificate}
-use Rattle.reports.specs.Readings.{IsSmall, AreSmall, IsSmallBest, IsReport}
+use Rattle.reports.specs.Readings.{IsSmall, HasSmallNumbers, IsSmallBest, IsReport}
 
 abbrev whole : Option (json.Json × List Token) → Option Data
 whole o = option_and_then of_json (option_and_then (λ p. json.if_last p.0 p.1) o)
@@ -47,7 +47,7 @@ best_same : (best : Option (ℕ × List Move)) → IsSmallBest best → of_json 
 best_same None h = refl
 best_same (Some best) h = rw (number_of-decimal best.0 h) refl
 
-outcome_readable : (id : List ℕ) (outcome : Ending) → AreSmall outcome → IsReadable (outcome_data id outcome)
+outcome_readable : (id : List ℕ) (outcome : Ending) → HasSmallNumbers outcome → IsReadable (outcome_data id outcome)
 outcome_readable id (Optimal cost plan) h =
     record { numbers = (IsNumber-decimal cost h, (tt, (tt, (tt, tt)))); shallow = omega arith; same = rw (number_of-decimal cost h) refl }
 outcome_readable id (Unsolvable why) h = record { numbers = (tt, (tt, (tt, tt))); shallow = omega arith; same = refl }

@@ -15,7 +15,7 @@ use Rattle.outcomes.specs.declared.outcome.Ending.TheVariants.{Optimal, Unsolvab
 use Rattle.reports.specs.Reports.{outcome_data, refused_data, accepted_data, accepted_bound_data, refused_certificate_data, report_text, best_data, letters_of}
 use Rattle.reports.specs.Readings.SaySame.{optimal, unsolvable, bounded}
 use Rattle.reports.specs.Readings.IsReport.{of_outcome, of_line, of_cost, of_bound, of_certificate}
-use Rattle.reports.specs.Readings.{IsSmall, AreSmall, SaySame}
+use Rattle.reports.specs.Readings.{IsSmall, HasSmallNumbers, SaySame}
 use Rattle.reports.proofs.ReadLemmas.{one_thing}
 
 -- the text under a key
@@ -106,7 +106,7 @@ same_id id id' outcome outcome' e = sym (own_id id outcome) ∙ ap (text_at (cod
 
 -- ---- the laws
 
-pub outcome_told : (id id' : List ℕ) (outcome outcome' : Ending) → AreSmall outcome → AreSmall outcome' → report_text (outcome_data id outcome) ≡ report_text (outcome_data id' outcome') → (id ≡ id') × SaySame outcome outcome'
+pub outcome_told : (id id' : List ℕ) (outcome outcome' : Ending) → HasSmallNumbers outcome → HasSmallNumbers outcome' → report_text (outcome_data id outcome) ≡ report_text (outcome_data id' outcome') → (id ≡ id') × SaySame outcome outcome'
 outcome_told id id' outcome outcome' small small' same =
     let e = one_thing (outcome_data id outcome) (outcome_data id' outcome') (of_outcome id outcome small) (of_outcome id' outcome' small') same in
     (same_id id id' outcome outcome' e, say_same id id' outcome outcome' e)

@@ -5,7 +5,7 @@ use Rattle.serde_json.specs.Data.{Data}
 use Rattle.serde_json.specs.Written.{compact_text}
 use Rattle.outcomes.specs.declared.outcome.Ending.{Ending}
 use Rattle.reports.specs.Reports.{outcome_data, refused_data, accepted_data, accepted_bound_data, refused_certificate_data, report_text}
-use Rattle.reports.specs.Readings.{IsSmall, AreSmall, IsReport, Reads, SaySame}
+use Rattle.reports.specs.Readings.{IsSmall, HasSmallNumbers, IsReport, Reads, SaySame}
 
 -- a report has one line feed (10), its last byte
 abbrev pub ReportsAreLines : Type 0
@@ -23,8 +23,8 @@ ReportsSayOneThing = (d e : Data) → IsReport d → IsReport e → report_text 
 abbrev pub OutcomesAreTold : Type 0
 OutcomesAreTold =
     (id id' : List ℕ) (outcome outcome' : Ending)
-    → AreSmall outcome
-    → AreSmall outcome'
+    → HasSmallNumbers outcome
+    → HasSmallNumbers outcome'
     → report_text (outcome_data id outcome) ≡ report_text (outcome_data id' outcome')
     → (id ≡ id') × SaySame outcome outcome'
 

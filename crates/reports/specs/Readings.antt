@@ -25,14 +25,14 @@ IsSmallBest None = ⊤
 IsSmallBest (Some best) = IsSmall best.0
 
 -- the numbers of an outcome's report are such numbers
-abbrev pub AreSmall : Ending → Type 0
-AreSmall (Optimal cost plan) = IsSmall cost
-AreSmall (Unsolvable why) = ⊤
-AreSmall (Bounded bound best cause) = IsSmall bound × IsSmallBest (best_of best)
+abbrev pub HasSmallNumbers : Ending → Type 0
+HasSmallNumbers (Optimal cost plan) = IsSmall cost
+HasSmallNumbers (Unsolvable why) = ⊤
+HasSmallNumbers (Bounded bound best cause) = IsSmall bound × IsSmallBest (best_of best)
 
 -- the value of a report: of an outcome, of a refused line, of a certificate that is accepted or refused
 pub data IsReport : Data → Type 0 where
-  of_outcome : (id : List ℕ) (outcome : Ending) → AreSmall outcome → IsReport (outcome_data id outcome)
+  of_outcome : (id : List ℕ) (outcome : Ending) → HasSmallNumbers outcome → IsReport (outcome_data id outcome)
   of_line : (code : List ℕ) (line : ℕ) → IsSmall line → IsReport (refused_data code line)
   of_cost : (cost : ℕ) → IsSmall cost → IsReport (accepted_data cost)
   of_bound : (bound : ℕ) → IsSmall bound → IsReport (accepted_bound_data bound)

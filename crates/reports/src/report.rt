@@ -7,7 +7,7 @@ ghost use Rattle.serde_json.specs.Written.{has_float};
 ghost use Rattle.board.specs.declared.moves.Move.{Move};
 ghost use Rattle.outcomes.specs.Outcomes.{best_of};
 ghost use Rattle.outcomes.specs.declared.outcome.Ending.TheVariants.{Optimal, Unsolvable, Bounded};
-ghost use Rattle.reports.specs.Readings.{IsSmall, IsSmallBest, AreSmall};
+ghost use Rattle.reports.specs.Readings.{IsSmall, IsSmallBest, HasSmallNumbers};
 ghost use Rattle.reports.specs.Reports.{letters_of, best_data, outcome_data, refused_data};
 ghost use Rattle.reports.specs.Reports.{accepted_data, accepted_bound_data};
 ghost use Rattle.reports.specs.Reports.{refused_certificate_data, report_text};
@@ -28,7 +28,7 @@ pub struct NoReport {
 pub fn outcome_report(alloc: Global, id: &str, outcome: &Ending) -> Result<String, NoReport>
     ensures text { IfOk result (λ text.
         string_bytes text ≡ report_text (outcome_data id.now outcome.now)) }
-    ensures small { IfOk result (λ _. AreSmall outcome.now) }
+    ensures small { IfOk result (λ _. HasSmallNumbers outcome.now) }
 {
     let value = match outcome_value(alloc, id, outcome) {
         Ok(value) => value,
@@ -89,7 +89,7 @@ pub fn refused_certificate_report(alloc: Global, code: &str) -> Result<String, N
 fn outcome_value(alloc: Global, id: &str, outcome: &Ending) -> Result<Value, OutOfMemory>
     ensures value { IfOk result (λ built. view built ≡ outcome_data id.now outcome.now) }
     ensures no_float { IfOk result (λ built. has_float (view built) ≡ false) }
-    ensures small { IfOk result (λ _. AreSmall outcome.now) }
+    ensures small { IfOk result (λ _. HasSmallNumbers outcome.now) }
 {
     match outcome {
         Ending::Optimal { cost, plan } => optimal_value(alloc, id, *cost, plan),

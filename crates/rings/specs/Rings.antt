@@ -22,69 +22,69 @@ abbrev pub IsRoomBetween : ℕ → ℕ → ℕ → Type 0
 IsRoomBetween from to room = (from ≡ to → room ≡ 1) × (from ≢ to → room ≡ LANE_LIMIT)
 
 -- the end at which packets go in: of which ring it is, and the packets that were sent by it, the first first
-pub record SendingEnd : Type 0 where
+pub record SenderModel : Type 0 where
   pub ring : Ring
   pub sent : Lane
 
 -- the end at which packets come out: of which ring it is, the packets that were received by it, the first first, and those after them
 -- that it has seen in the ring and not taken
-pub record ReceivingEnd : Type 0 where
+pub record ReceiverModel : Type 0 where
   pub ring : Ring
   pub received : Lane
   pub left : Lane
 
 module _ {P : Type 0} where
-  abbrev pub sending_end : Producer Packet Global P → SendingEnd
+  abbrev pub sending_end : Producer Packet Global P → SenderModel
   sending_end p = record { ring = (p.end.words, p.end.slots, p.end.names, p.end.heap); sent = sent p }
 
-  abbrev pub receiving_end : Consumer Packet Global P → ReceivingEnd
+  abbrev pub receiving_end : Consumer Packet Global P → ReceiverModel
   receiving_end c = record { ring = (c.end.words, c.end.slots, c.end.names, c.end.heap); received = received c; left = known_items c }
 
 -- one packet more was sent
-abbrev pub TakesIn : SendingEnd → Packet → SendingEnd → Type 0
+abbrev pub TakesIn : SenderModel → Packet → SenderModel → Type 0
 TakesIn before packet after = after ≡ record before { sent = before.sent ++ packet ∷ [] }
 
 -- one packet more was received; more may have been seen in the ring
-abbrev pub GivesOut : ReceivingEnd → Packet → ReceivingEnd → Type 0
+abbrev pub GivesOut : ReceiverModel → Packet → ReceiverModel → Type 0
 GivesOut before packet after = (after.ring ≡ before.ring) × (after.received ≡ before.received ++ packet ∷ [])
 
 -- nothing was received; more may have been seen in the ring
-abbrev pub Looks : ReceivingEnd → ReceivingEnd → Type 0
+abbrev pub Looks : ReceiverModel → ReceiverModel → Type 0
 Looks before after = (after.ring ≡ before.ring) × (after.received ≡ before.received)
 
 -- the rings of these ends
-abbrev pub out_rings : List SendingEnd → List Ring
+abbrev pub out_rings : List SenderModel → List Ring
 out_rings outs = map (λ out. out.ring) outs
 
-abbrev pub in_rings : List ReceivingEnd → List Ring
+abbrev pub in_rings : List ReceiverModel → List Ring
 in_rings ins = map (λ into. into.ring) ins
 
 -- what was sent by each
-abbrev pub sent_lanes : List SendingEnd → List Lane
+abbrev pub sent_lanes : List SenderModel → List Lane
 sent_lanes outs = map (λ out. out.sent) outs
 
 -- what was received by each
-abbrev pub received_lanes : List ReceivingEnd → List Lane
+abbrev pub received_lanes : List ReceiverModel → List Lane
 received_lanes ins = map (λ into. into.received) ins
 
 -- what each has seen and not taken
-abbrev pub left_lanes : List ReceivingEnd → List Lane
+abbrev pub left_lanes : List ReceiverModel → List Lane
 left_lanes ins = map (λ into. into.left) ins
 
 -- the same of the ends that each worker has
-abbrev pub rings_of_outs : List (Vec SendingEnd Global) → List (List Ring)
+abbrev pub rings_of_outs : List (Vec SenderModel Global) → List (List Ring)
 rings_of_outs outs = map (λ row. out_rings row.items) outs
 
-abbrev pub rings_of_ins : List (Vec ReceivingEnd Global) → List (List Ring)
+abbrev pub rings_of_ins : List (Vec ReceiverModel Global) → List (List Ring)
 rings_of_ins ins = map (λ row. in_rings row.items) ins
 
-abbrev pub sent_rows : List (Vec SendingEnd Global) → List (List Lane)
+abbrev pub sent_rows : List (Vec SenderModel Global) → List (List Lane)
 sent_rows outs = map (λ row. sent_lanes row.items) outs
 
-abbrev pub received_rows : List (Vec ReceivingEnd Global) → List (List Lane)
+abbrev pub received_rows : List (Vec ReceiverModel Global) → List (List Lane)
 received_rows ins = map (λ row. received_lanes row.items) ins
 
-abbrev pub left_rows : List (Vec ReceivingEnd Global) → List (List Lane)
+abbrev pub left_rows : List (Vec ReceiverModel Global) → List (List Lane)
 left_rows ins = map (λ row. left_lanes row.items) ins
 
 -- the lane at this row and this place in it
@@ -104,7 +104,7 @@ abbrev pub HaveRoom : List (List Ring) → Type 0
 HaveRoom outs = (i j : ℕ) (ring : Ring) → slice_get (slice_index_or outs i []) j ≡ Some ring → IsRoomBetween i j (room_of ring)
 
 -- the rings of n workers as they begin: nothing was sent or received by them, and each has its room
-pub record AreNew (n : ℕ) (outs : List (Vec SendingEnd Global)) (ins : List (Vec ReceivingEnd Global)) : Type 0 where
+pub record AreNew (n : ℕ) (outs : List (Vec SenderModel Global)) (ins : List (Vec ReceiverModel Global)) : Type 0 where
   pub paired : ArePaired n (rings_of_outs outs) (rings_of_ins ins)
   pub sent : sent_rows outs ≡ replicate n (replicate n [])
   pub received : received_rows ins ≡ replicate n (replicate n [])
@@ -117,7 +117,7 @@ pub record IsSameRing (outs : List Ring) (to : ℕ) (ins : List Ring) (from : �
   pub same : slice_get outs to ≡ slice_get ins from
 
 -- the ends of one worker after the one from worker `from` was looked at: only what it has seen and not taken may be another
-pub record IsLookedAt (from : ℕ) (ins ins' : List ReceivingEnd) : Type 0 where
+pub record IsLookedAt (from : ℕ) (ins ins' : List ReceiverModel) : Type 0 where
   pub rings : in_rings ins' ≡ in_rings ins
   pub received : received_lanes ins' ≡ received_lanes ins
   pub others : (k : ℕ) → k ≢ from → slice_index_or (left_lanes ins') k [] ≡ slice_index_or (left_lanes ins) k []

@@ -19,9 +19,9 @@ pub struct Sender<C: Counting> {
 }
 
 impl<C: Counting> Model for Sender<C> {
-    ghost use Rattle.rings.specs.Rings.{SendingEnd, sending_end};
+    ghost use Rattle.rings.specs.Rings.{SenderModel, sending_end};
 
-    ghost Value = { SendingEnd };
+    ghost Value = { SenderModel };
 
     ghost view = { λ s. sending_end s.producer };
 }
@@ -37,9 +37,9 @@ impl<C: Counting> Model for Receiver<C> {
     ghost use Rattle.std.specs.Prelude.{◌≤◌};
     ghost use Rattle.rtrb.specs.Ring.{consumer_capacity};
     ghost use Rattle.world_model.specs.declared.limits.TheConstants.{LANE_LIMIT};
-    ghost use Rattle.rings.specs.Rings.{ReceivingEnd, receiving_end};
+    ghost use Rattle.rings.specs.Rings.{ReceiverModel, receiving_end};
 
-    ghost Value = { ReceivingEnd };
+    ghost Value = { ReceiverModel };
 
     ghost view = { λ r. receiving_end r.consumer };
 

@@ -10,10 +10,10 @@ use Rattle.std.proofs.lemmas.List.{length-take, length-take-le, length-drop, len
 use Rattle.std.proofs.lemmas.List.Elements.{All-from_get_or, All-get_or, recursion_from_All}
 use Rattle.std.proofs.lemmas.List.FromFn.{length-map-range_with_len, get_or-map-range_with_len}
 use Rattle.std.proofs.lemmas.Nat.{div-mul-add, mod-mul-add, mul-le, pow_pos}
-use Rattle.board.specs.Grids.{Grid, IsShape, cell_count}
-use Rattle.board.specs.Positions.{Position, IsBoard, cell_of, blank_of}
+use Rattle.board.specs.Shapes.{ShapeModel, IsShape, cell_count}
+use Rattle.board.specs.Boards.{BoardModel, IsBoard, cell_of, blank_of}
 use Rattle.board.specs.declared.moves.Move.{Move}
-use Rattle.board.specs.CostRules.{CostRule}
+use Rattle.board.specs.Weights.{WeightsModel}
 use Rattle.board.specs.Neighbours.{neighbour}
 use Rattle.board.specs.Moves.{Moves, blank_exchange}
 use Rattle.board.proofs.TileLemmas.{cell_is, has_cell, all_differ, across}
@@ -29,42 +29,42 @@ use Rattle.search_keys.specs.declared.keyed.KeyedBoard.TheInside.{Inside}
 
 -- ---- the base
 
-pub few_cells : (grid : Grid) → IsShape grid → cell_count grid ≤ 25
+pub few_cells : (grid : ShapeModel) → IsShape grid → cell_count grid ≤ 25
 few_cells grid sides = mul-le grid.rows grid.cols 5 5 sides.rows_high sides.cols_high
 
-pub short_base : (grid : Grid) → cell_count grid ≤ 16 → key_base grid ≡ 16
+pub short_base : (grid : ShapeModel) → cell_count grid ≤ 16 → key_base grid ≡ 16
 short_base grid few = let yes' : nat_le (cell_count grid) 16 ≡ true = grind (arith, nat_tests) in ap (λ (bits : ℕ). 2 ^ bits) (cond-true (nat_le (cell_count grid) 16) 4 5 yes')
 
-pub long_base : (grid : Grid) → 16 < cell_count grid → key_base grid ≡ 32
+pub long_base : (grid : ShapeModel) → 16 < cell_count grid → key_base grid ≡ 32
 long_base grid many = let no' : nat_le (cell_count grid) 16 ≡ false = grind (arith, nat_tests) in ap (λ (bits : ℕ). 2 ^ bits) (cond-false (nat_le (cell_count grid) 16) 4 5 no')
 
 -- each cell is a digit
-pub base_high : (grid : Grid) → IsShape grid → cell_count grid ≤ key_base grid
+pub base_high : (grid : ShapeModel) → IsShape grid → cell_count grid ≤ key_base grid
 base_high grid sides =
     ⊎_elim
     (λ (many : 16 < cell_count grid). let base = long_base grid many in let few = few_cells grid sides in omega arith)
     (λ (few : cell_count grid ≤ 16). let base = short_base grid few in omega arith)
     (cases_lt 16 (cell_count grid))
 
-pub base_some : (grid : Grid) → 0 < key_base grid
+pub base_some : (grid : ShapeModel) → 0 < key_base grid
 base_some grid = pow_pos (digit_bits grid)
 
 -- ---- cells by number
 
-pub length-cells : (b : Position) → length (cells_by_number b) ≡ cell_count b.grid
+pub length-cells : (b : BoardModel) → length (cells_by_number b) ≡ cell_count b.grid
 length-cells b = length-map-range_with_len (cell_of b) 0 (cell_count b.grid)
 
-pub cell_at : (b : Position) (number : ℕ) → number < cell_count b.grid → get_or (cells_by_number b) number 0 ≡ cell_of b number
+pub cell_at : (b : BoardModel) (number : ℕ) → number < cell_count b.grid → get_or (cells_by_number b) number 0 ≡ cell_of b number
 cell_at b number low = get_or-map-range_with_len (cell_of b) 0 (cell_count b.grid) number number 0 low (omega arith)
 
-pub cells_in_range : (b : Position) → IsBoard b → All (λ cell. cell < cell_count b.grid) (cells_by_number b)
+pub cells_in_range : (b : BoardModel) → IsBoard b → All (λ cell. cell < cell_count b.grid) (cells_by_number b)
 cells_in_range b board =
     All-from_get_or (λ cell. cell < cell_count b.grid) (cells_by_number b) 0
     (λ k k_in.
     let low : k < cell_count b.grid = subst (λ (n : ℕ). k < n) (length-cells b) k_in in
     subst (λ (cell : ℕ). cell < cell_count b.grid) (sym (cell_at b k low)) (has_cell b board k low).0)
 
-pub cells_differ : (b : Position) → IsBoard b → AllPairs (λ x y. x ≢ y) (cells_by_number b)
+pub cells_differ : (b : BoardModel) → IsBoard b → AllPairs (λ x y. x ≢ y) (cells_by_number b)
 cells_differ b board =
     all_differ (cells_by_number b)
     (λ i j i_in j_in same.
@@ -74,11 +74,11 @@ cells_differ b board =
     sym (has_cell b board i i_low).1 ∙ ap (λ (k : ℕ). get_or b.tiles k 0) cells ∙ (has_cell b board j j_low).1)
 
 -- the cells of a board's numbers make a board too
-pub turned_board : (b : Position) → IsBoard b → IsBoard (turned b)
+pub turned_board : (b : BoardModel) → IsBoard b → IsBoard (turned b)
 turned_board b board = record { sides = board.sides; one_each = length-cells b; in_range = cells_in_range b board; different = cells_differ b board }
 
 -- and the cells of its numbers are the numbers
-pub turned_back : (b : Position) → IsBoard b → turned (turned b) ≡ b
+pub turned_back : (b : BoardModel) → IsBoard b → turned (turned b) ≡ b
 turned_back b board =
     let long : length (cells_by_number (turned b)) ≡ length b.tiles = length-cells (turned b) ∙ sym board.one_each in
     let tiles : cells_by_number (turned b) ≡ b.tiles =
@@ -94,25 +94,25 @@ turned_back b board =
 
 -- ---- the number that the cells are digits of
 
-pub cells_below : (b : Position) → IsBoard b → Below (key_base b.grid) (cells_by_number b)
+pub cells_below : (b : BoardModel) → IsBoard b → Below (key_base b.grid) (cells_by_number b)
 cells_below b board =
     recursion_from_All (λ cell. cell < key_base b.grid) (cells_by_number b)
     (λ k d low. let under = cells_in_range b board k d low in let high = base_high b.grid board.sides in omega arith)
 
-pub key_fits : (b : Position) → IsBoard b → search_key b < key_base b.grid ^ cell_count b.grid
+pub key_fits : (b : BoardModel) → IsBoard b → search_key b < key_base b.grid ^ cell_count b.grid
 key_fits b board = subst (λ (n : ℕ). search_key b < key_base b.grid ^ n) (length-cells b) (sparse_below (key_base b.grid) (cells_by_number b) (cells_below b board))
 
-pub key_digits : (b : Position) → IsBoard b → digits_in (key_base b.grid) (cell_count b.grid) (search_key b) ≡ cells_by_number b
+pub key_digits : (b : BoardModel) → IsBoard b → digits_in (key_base b.grid) (cell_count b.grid) (search_key b) ≡ cells_by_number b
 key_digits b board = subst (λ (n : ℕ). digits_in (key_base b.grid) n (search_key b) ≡ cells_by_number b) (length-cells b) (digits_back (key_base b.grid) (cells_by_number b) (cells_below b board))
 
 -- at most 16 digits of four bits, or 25 of five
-pub short_fits : (b : Position) → IsBoard b → cell_count b.grid ≤ 16 → search_key b < 2 ^ 64
+pub short_fits : (b : BoardModel) → IsBoard b → cell_count b.grid ≤ 16 → search_key b < 2 ^ 64
 short_fits b board few =
     let low : search_key b < 16 ^ cell_count b.grid = subst (λ (n : ℕ). search_key b < n ^ cell_count b.grid) (short_base b.grid few) (key_fits b board) in
     let most : 16 ^ cell_count b.grid ≤ 16 ^ 16 = pow-le-pow_right {n = 16} (omega arith) {j = 16} few in
     omega arith
 
-pub long_fits : (b : Position) → IsBoard b → search_key b < 2 ^ 125
+pub long_fits : (b : BoardModel) → IsBoard b → search_key b < 2 ^ 125
 long_fits b board =
     ⊎_elim
     (λ (many : 16 < cell_count b.grid).
@@ -122,12 +122,12 @@ long_fits b board =
     (λ (few : cell_count b.grid ≤ 16). let low = short_fits b board few in omega arith)
     (cases_lt 16 (cell_count b.grid))
 
-pub key_bits : (b : Position) → IsBoard b → (search_key b < 2 ^ 125) × (cell_count b.grid ≤ 16 → search_key b < 2 ^ 64)
+pub key_bits : (b : BoardModel) → IsBoard b → (search_key b < 2 ^ 125) × (cell_count b.grid ≤ 16 → search_key b < 2 ^ 64)
 key_bits b board = (long_fits b board, short_fits b board)
 
 -- ---- a key names one board
 
-pub one_board : (a b : Position) → IsBoard a → IsBoard b → a.grid ≡ b.grid → search_key a ≡ search_key b → a ≡ b
+pub one_board : (a b : BoardModel) → IsBoard a → IsBoard b → a.grid ≡ b.grid → search_key a ≡ search_key b → a ≡ b
 one_board a b board board' sides same =
     let cells : cells_by_number a ≡ cells_by_number b =
     sym (key_digits a board) ∙ (λ i. digits_in (key_base (sides i)) (cell_count (sides i)) (same i)) ∙ key_digits b board' in
@@ -135,14 +135,14 @@ one_board a b board board' sides same =
     sym (turned_back a board) ∙ ap turned turn ∙ turned_back b board'
 
 -- what lies in memory where a board has the key
-pub key_read : (inside : Inside) (b : Position) → HasSearchKey inside.shape inside.key b → board_in inside ≡ b
+pub key_read : (inside : Inside) (b : BoardModel) → HasSearchKey inside.shape inside.key b → board_in inside ≡ b
 key_read inside b has =
     let cells : digits_in (key_base inside.shape) (cell_count inside.shape) inside.key ≡ cells_by_number b =
     (λ i. digits_in (key_base (sym has.sides i)) (cell_count (sym has.sides i)) (sym has.packed i)) ∙ key_digits b has.board in
     let turn : record { grid = inside.shape; tiles = digits_in (key_base inside.shape) (cell_count inside.shape) inside.key } ≡ turned b = λ i. record { grid = sym has.sides i; tiles = cells i } in
     ap turned turn ∙ turned_back b has.board
 
-pub keyed_as : (inside : Inside) (b : Position) → HasSearchKey inside.shape inside.key b → IsKeyed inside
+pub keyed_as : (inside : Inside) (b : BoardModel) → HasSearchKey inside.shape inside.key b → IsKeyed inside
 keyed_as inside b has =
     let same = key_read inside b has in
     record { board = subst IsBoard (sym same) has.board; key = ap search_key same ∙ has.packed }
@@ -221,12 +221,12 @@ digit_set n (x ∷ xs) (suc i) v within =
 
 -- ---- what a board's key has as digits
 
-pub cell_digit : (b : Position) → IsBoard b → (number : ℕ) → number < cell_count b.grid → search_key b / key_base b.grid ^ number % key_base b.grid ≡ cell_of b number
+pub cell_digit : (b : BoardModel) → IsBoard b → (number : ℕ) → number < cell_count b.grid → search_key b / key_base b.grid ^ number % key_base b.grid ≡ cell_of b number
 cell_digit b board number low =
     one_digit (key_base b.grid) number (cells_by_number b) (base_some b.grid) (cells_below b board) (subst (λ (n : ℕ). number < n) (sym (length-cells b)) low)
     ∙ cell_at b number low
 
-pub group_digits : (b : Position) (first n : ℕ) → IsBoard b → first + n ≤ cell_count b.grid → sparse_of (key_base b.grid) (map (cell_of b) (range_with_len first n)) ≡ search_key b / key_base b.grid ^ first % key_base b.grid ^ n
+pub group_digits : (b : BoardModel) (first n : ℕ) → IsBoard b → first + n ≤ cell_count b.grid → sparse_of (key_base b.grid) (map (cell_of b) (range_with_len first n)) ≡ search_key b / key_base b.grid ^ first % key_base b.grid ^ n
 group_digits b first n board within =
     let base : ℕ = key_base b.grid in
     let part : take n (drop first (cells_by_number b)) ≡ map (cell_of b) (range_with_len first n) =
@@ -245,7 +245,7 @@ group_digits b first n board within =
 
 -- ---- a move
 
-module _ (b : Position) (to : ℕ) (board : IsBoard b) (to_below : to < cell_count b.grid) (other : to ≢ blank_of b) where
+module _ (b : BoardModel) (to : ℕ) (board : IsBoard b) (to_below : to < cell_count b.grid) (other : to ≢ blank_of b) where
   tile_low : get_or b.tiles to 0 < cell_count b.grid
   tile_low = tile_below b to board to_below
 
@@ -332,7 +332,7 @@ module _ (b : Position) (to : ℕ) (board : IsBoard b) (to_below : to < cell_cou
       let a : get_or (cells_by_number b) 0 0 * key_base b.grid ^ 0 ≡ get_or (cells_by_number b) 0 0 * 1 = ap (λ (p : ℕ). get_or (cells_by_number b) 0 0 * p) one in
       omega (arith, first, second, held_up, blank, a)
 
-pub digits_exchanged : (rule : CostRule) (b : Position) (m : Move) (b' : Position) (c tile : ℕ) → IsBoard b → Moves rule b m b' c → tile ≡ slice_index b.tiles (blank_of b') → search_key b' + cell_of b tile * key_base b.grid ^ tile + blank_of b ≡ search_key b + blank_of b * key_base b.grid ^ tile + cell_of b tile
+pub digits_exchanged : (rule : WeightsModel) (b : BoardModel) (m : Move) (b' : BoardModel) (c tile : ℕ) → IsBoard b → Moves rule b m b' c → tile ≡ slice_index b.tiles (blank_of b') → search_key b' + cell_of b tile * key_base b.grid ^ tile + blank_of b ≡ search_key b + blank_of b * key_base b.grid ^ tile + cell_of b tile
 digits_exchanged rule b m b' c tile board moves is =
     let to_below = cell_below b.grid m (blank_of b) moves.cell moves.towards in
     let other = other_cell b.grid m (blank_of b) moves.cell moves.towards in
@@ -348,12 +348,12 @@ digits_exchanged rule b m b' c tile board moves is =
 
 -- ---- what lies in memory
 
-module _ (inside : Inside) (b : Position) (keyed : IsKeyed inside) (is : board_in inside ≡ b) where
+module _ (inside : Inside) (b : BoardModel) (keyed : IsKeyed inside) (is : board_in inside ≡ b) where
   pub stored_board : IsBoard b
   stored_board = subst IsBoard is keyed.board
 
   pub stored_grid : inside.shape ≡ b.grid
-  stored_grid = ap (λ (p : Position). p.grid) is
+  stored_grid = ap (λ (p : BoardModel). p.grid) is
 
   pub stored_key : search_key b ≡ inside.key
   stored_key = ap search_key (sym is) ∙ keyed.key
@@ -362,10 +362,10 @@ module _ (inside : Inside) (b : Position) (keyed : IsKeyed inside) (is : board_i
   stored_cell number low = subst (λ (k : ℕ). k / key_base b.grid ^ number % key_base b.grid ≡ cell_of b number) stored_key (cell_digit b stored_board number low)
 
   pub short_here : cell_count inside.shape ≤ 16 → key_base b.grid ≡ 16
-  short_here few = short_base b.grid (subst (λ (g : Grid). cell_count g ≤ 16) stored_grid few)
+  short_here few = short_base b.grid (subst (λ (g : ShapeModel). cell_count g ≤ 16) stored_grid few)
 
   pub long_here : 16 < cell_count inside.shape → key_base b.grid ≡ 32
-  long_here many = long_base b.grid (subst (λ (g : Grid). 16 < cell_count g) stored_grid many)
+  long_here many = long_base b.grid (subst (λ (g : ShapeModel). 16 < cell_count g) stored_grid many)
 
   pub short_cell : cell_count inside.shape ≤ 16 → (number : ℕ) → number < cell_count b.grid → inside.key / 16 ^ number % 16 ≡ cell_of b number
   short_cell few number low = subst (λ (n : ℕ). inside.key / n ^ number % n ≡ cell_of b number) (short_here few) (stored_cell number low)
@@ -380,10 +380,10 @@ module _ (inside : Inside) (b : Position) (keyed : IsKeyed inside) (is : board_i
       (subst (λ (k : ℕ). sparse_of (key_base b.grid) (map (cell_of b) (range_with_len first n)) ≡ k / key_base b.grid ^ first % key_base b.grid ^ n) stored_key (group_digits b first n stored_board within)))
 
   pub few_here : cell_count inside.shape ≤ 16 → cell_count b.grid ≤ 16
-  few_here few = subst (λ (g : Grid). cell_count g ≤ 16) stored_grid few
+  few_here few = subst (λ (g : ShapeModel). cell_count g ≤ 16) stored_grid few
 
   pub few_stored : cell_count b.grid ≤ 16 → cell_count inside.shape ≤ 16
-  few_stored few = subst (λ (g : Grid). cell_count g ≤ 16) (sym stored_grid) few
+  few_stored few = subst (λ (g : ShapeModel). cell_count g ≤ 16) (sym stored_grid) few
 
   pub cell_within : (number cell : ℕ) → number < cell_count b.grid → cell ≡ cell_of b number → cell < cell_count b.grid
   cell_within number cell low at = subst (λ (k : ℕ). k < cell_count b.grid) (sym at) (has_cell b stored_board number low).0
@@ -474,7 +474,7 @@ number_low n most place digits some few low =
     omega (arith, part, wide)
 
 -- the cells of the numbers are the first ones of a list that has the cell of each
-pub cells_taken : (b : Position) (cells : List ℕ) (n : ℕ) → IsBoard b → length cells ≡ 25 → n ≡ cell_count b.grid → ((number : ℕ) → number < cell_count b.grid → slice_index cells number ≡ cell_of b number) → take n cells ≡ cells_by_number b
+pub cells_taken : (b : BoardModel) (cells : List ℕ) (n : ℕ) → IsBoard b → length cells ≡ 25 → n ≡ cell_count b.grid → ((number : ℕ) → number < cell_count b.grid → slice_index cells number ≡ cell_of b number) → take n cells ≡ cells_by_number b
 cells_taken b cells n board all is are =
     let taken = length-take n cells in
     let few = few_cells b.grid board.sides in
@@ -487,15 +487,15 @@ cells_taken b cells n board all is are =
     get_or-take n cells k 0 low ∙ are k under ∙ sym (cell_at b k under))
 
 -- they are digits of a base that is that of the key
-pub cells_low : (b : Position) (digits : List ℕ) (n : ℕ) → IsBoard b → key_base b.grid ≡ n → digits ≡ cells_by_number b → All (λ digit. digit < n) digits
+pub cells_low : (b : BoardModel) (digits : List ℕ) (n : ℕ) → IsBoard b → key_base b.grid ≡ n → digits ≡ cells_by_number b → All (λ digit. digit < n) digits
 cells_low b digits n board based is =
     subst (λ (xs : List ℕ). All (λ digit. digit < n) xs) (sym is)
     (λ k d low. let under = cells_in_range b board k d low in let high = base_high b.grid board.sides in omega (arith, under, high, based))
 
-pub key_made : (b : Position) (digits : List ℕ) (n : ℕ) → key_base b.grid ≡ n → digits ≡ cells_by_number b → sparse_of n digits ≡ search_key b
+pub key_made : (b : BoardModel) (digits : List ℕ) (n : ℕ) → key_base b.grid ≡ n → digits ≡ cells_by_number b → sparse_of n digits ≡ search_key b
 key_made b digits n based is = λ i. sparse_of (sym based i) (is i)
 
-pub new_key : (inside : Inside) (b : Position) → IsBoard b → inside.shape ≡ b.grid → inside.key ≡ search_key b → HasSearchKey inside.shape inside.key b
+pub new_key : (inside : Inside) (b : BoardModel) → IsBoard b → inside.shape ≡ b.grid → inside.key ≡ search_key b → HasSearchKey inside.shape inside.key b
 new_key inside b board sides is = record { board = board; sides = sym sides; packed = sym is }
 
 -- ---- the loops that write digits
@@ -525,12 +525,12 @@ left_all n key = sym (ap (λ (p : ℕ). key / p) (pow-zero n) ∙ div-one key)
 -- ---- the loop that writes the tiles
 
 -- two numbers stand on two cells
-pub cells_apart : (b : Position) (m n : ℕ) → IsBoard b → m < cell_count b.grid → n < cell_count b.grid → m ≢ n → cell_of b m ≢ cell_of b n
+pub cells_apart : (b : BoardModel) (m n : ℕ) → IsBoard b → m < cell_count b.grid → n < cell_count b.grid → m ≢ n → cell_of b m ≢ cell_of b n
 cells_apart b m n board m_in n_in apart = λ same.
     apart (sym (has_cell b board m m_in).1 ∙ ap (λ (c : ℕ). get_or b.tiles c 0) same ∙ (has_cell b board n n_in).1)
 
 -- one number more is written on its cell
-pub numbers_more : (b : Position) (written : List ℕ) (n : ℕ) → IsBoard b → n < cell_count b.grid → cell_of b n < length written → ((k : ℕ) → k < n → slice_index written (cell_of b k) ≡ k) → (k : ℕ) → k < n + 1 → slice_index (set written (cell_of b n) n) (cell_of b k) ≡ k
+pub numbers_more : (b : BoardModel) (written : List ℕ) (n : ℕ) → IsBoard b → n < cell_count b.grid → cell_of b n < length written → ((k : ℕ) → k < n → slice_index written (cell_of b k) ≡ k) → (k : ℕ) → k < n + 1 → slice_index (set written (cell_of b n) n) (cell_of b k) ≡ k
 numbers_more b written n board within room are k low =
     ⊎_elim
     (λ (same : k ≡ n).
@@ -544,7 +544,7 @@ numbers_more b written n board within room are k low =
     (cases_eq k n)
 
 -- once all are written, these are the tiles
-pub numbers_all : (b : Position) (written : List ℕ) (n : ℕ) → IsBoard b → length written ≡ 25 → cell_count b.grid ≤ n → ((k : ℕ) → k < n → slice_index written (cell_of b k) ≡ k) → take (cell_count b.grid) written ≡ b.tiles
+pub numbers_all : (b : BoardModel) (written : List ℕ) (n : ℕ) → IsBoard b → length written ≡ 25 → cell_count b.grid ≤ n → ((k : ℕ) → k < n → slice_index written (cell_of b k) ≡ k) → take (cell_count b.grid) written ≡ b.tiles
 numbers_all b written n board long all are =
     let most = few_cells b.grid board.sides in
     let one_each = board.one_each in

@@ -1,21 +1,21 @@
 -- How a board lies in memory by its search key.
 use Rattle.std.specs.Prelude.{◌≡◌}
-use Rattle.board.specs.Grids.{cell_count}
-use Rattle.board.specs.Positions.{Position, IsBoard}
+use Rattle.board.specs.Shapes.{cell_count}
+use Rattle.board.specs.Boards.{BoardModel, IsBoard}
 use Rattle.pattern_index.specs.Sparse.{digits_in}
 use Rattle.search_keys.specs.SearchKeys.{key_base, cells_by_number, search_key}
 use Rattle.search_keys.specs.declared.keyed.KeyedBoard.TheInside.{Inside}
 
 -- Number and cell exchanged: the number c stands on cell t where t stands on cell c of the board.
-abbrev pub turned : Position → Position
+abbrev pub turned : BoardModel → BoardModel
 turned b = record { grid = b.grid; tiles = cells_by_number b }
 
 -- the board whose cells by number are the digits of the key
-abbrev pub board_in : Inside → Position
+abbrev pub board_in : Inside → BoardModel
 board_in inside = turned (record { grid = inside.shape; tiles = digits_in (key_base inside.shape) (cell_count inside.shape) inside.key })
 
 -- the memory of a board
-abbrev pub storage_of : Position → Inside
+abbrev pub storage_of : BoardModel → Inside
 storage_of b = record { shape = b.grid; key = search_key b }
 
 -- that is a board, and the key is its search key

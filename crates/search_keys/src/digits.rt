@@ -1,7 +1,8 @@
 //! Digits of four and of five bits: put together, read, two exchanged, and the first that is a given
 //! one.
 
-ghost use Rattle.std.specs.Prelude.{ℕ, ◌≡◌, ◌+◌, ◌*◌, ◌/◌, ◌%◌, ◌^◌, ◌<◌, ◌≤◌, All, length, slice_index};
+ghost use Rattle.std.specs.Prelude.{ℕ, ◌≡◌, ◌+◌, ◌*◌, ◌/◌, ◌%◌, ◌^◌, ◌<◌, ◌≤◌, All, length};
+ghost use Rattle.std.specs.Prelude.{slice_index};
 ghost use Rattle.pattern_index.specs.Sparse.{sparse_of};
 ghost use Rattle.search_keys.specs.SearchKeys.{IsFirstDigit};
 

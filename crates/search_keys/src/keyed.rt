@@ -4,8 +4,8 @@ ghost use Rattle.std.specs.Prelude.{ℕ, ◌≡◌, ◌+◌, ◌<◌, ◌≤◌,
 ghost use Rattle.std.specs.Prelude.{slice_index, take, length, map};
 ghost use Rattle.std.specs.List.{range_with_len};
 ghost use Rattle.board.specs.declared.moves.Move.{Move};
-ghost use Rattle.board.specs.Grids.{cell_count};
-ghost use Rattle.board.specs.Positions.{Position, IsBoard, blank_of, cell_of, goal_of};
+ghost use Rattle.board.specs.Shapes.{cell_count};
+ghost use Rattle.board.specs.Boards.{BoardModel, IsBoard, blank_of, cell_of, goal_of};
 ghost use Rattle.board.specs.Neighbours.{neighbour};
 ghost use Rattle.board.specs.Moves.{blank_exchange};
 ghost use Rattle.pattern_index.specs.Sparse.{sparse_of};
@@ -30,9 +30,9 @@ pub struct KeyedBoard {
 }
 
 impl Model for KeyedBoard {
-    ghost use Rattle.board.specs.Positions.{Position};
+    ghost use Rattle.board.specs.Boards.{BoardModel};
 
-    ghost Value = { Position };
+    ghost Value = { BoardModel };
 
     ghost use Rattle.search_keys.specs.Storage.{board_in, storage_of, IsKeyed};
     ghost use Rattle.search_keys.specs.Storage.{storage_of-board_in};
@@ -103,7 +103,7 @@ impl KeyedBoard {
 
     /// The board of this shape with this search key, which is known to be a board's.
     pub fn of_key(shape: Shape, key: u128) -> Self
-        requires { (b : Position) × HasSearchKey shape key b }
+        requires { (b : BoardModel) × HasSearchKey shape key b }
         ensures { HasSearchKey shape key result }
     {
         KeyedBoard { shape, key }

@@ -8,15 +8,15 @@ use Rattle.std.proofs.lemmas.List.Elements.{Contains-append_left, Contains-push,
 use Rattle.std.proofs.lemmas.List.Sorted.{Contains-permutation, IsPermutation-sym, length_permutation}
 use Rattle.std.proofs.lemmas.Option.{slice_get_within}
 use Rattle.board.specs.declared.moves.Move.{Move}
-use Rattle.open_buckets.specs.OpenLists.{OpenList, entries_at, places_at, NothingWaits, IsLowest, Puts, Takes, Sorts, IsNext}
-use Rattle.closed_table.specs.Tables.{Table, arrivals, relaxation_answer, table_relaxation, table_closure}
+use Rattle.open_buckets.specs.OpenLists.{OpenModel, entries_at, places_at, NothingWaits, IsLeastF, PutsEntry, TakesEntry, Sorts, IsNextEntry}
+use Rattle.closed_table.specs.Tables.{ClosedModel, arrivals, relaxation_answer, table_relaxation, table_closure}
 use Rattle.closed_table.specs.declared.table.Relaxed.TheVariants.{New, Lower, Kept}
 use Rattle.world_model.specs.declared.parts.Known.{Known}
 use Rattle.world_model.specs.Knowledge.{Knowledge, is_news}
 use Rattle.world_model.proofs.ChangeLemmas.{with_insert, get_inserted, same_known}
-use Rattle.search_lists.specs.Lists.{Lists, both, AreKnown, HasEntriesOf, HasMoreRoom}
+use Rattle.search_lists.specs.Lists.{SearchListsModel, both, AreKnown, HasEntriesOf, HasMoreRoom}
 use Rattle.open_buckets.specs.declared.open.TheConstants.{GREATEST_F}
-use Rattle.search_lists.specs.Orders.{Guide, IsOpen, IsInOrder, NoneBelow, IsFirst, IsLeastOpen, AddsUp}
+use Rattle.search_lists.specs.Orders.{Guide, IsOpenKey, IsInOrder, NoneBelow, IsFirst, IsLeastOpen, AddsUp}
 use Rattle.search_lists.specs.declared.lists.Next.{Next}
 use Rattle.search_lists.specs.declared.lists.Met.{Met}
 
@@ -26,7 +26,7 @@ abbrev pub Entry : Type 0
 Entry = ℕ × ℕ
 
 -- what is left was there
-pub was_there : (f : ℕ) (e : Entry) (old new : OpenList ℕ) → Takes f e old new → (h : ℕ) (x : Entry) → Contains (entries_at new h) x → Contains (entries_at old h) x
+pub was_there : (f : ℕ) (e : Entry) (old new : OpenModel ℕ) → TakesEntry f e old new → (h : ℕ) (x : Entry) → Contains (entries_at new h) x → Contains (entries_at old h) x
 was_there f e old new takes h x has =
     ⊎_elim
     (λ (here : h ≡ f). subst (λ (k : ℕ). Contains (entries_at old k) x) (sym here) (subst (λ (xs : List Entry). Contains xs x) (sym takes.here) (Contains-append_left (entries_at new f) (e ∷ []) x (subst (λ (k : ℕ). Contains (entries_at new k) x) here has))))
@@ -34,7 +34,7 @@ was_there f e old new takes h x has =
     (cases_eq h f)
 
 -- what was there is left, or was taken
-pub is_left : (f : ℕ) (e : Entry) (old new : OpenList ℕ) → Takes f e old new → (h : ℕ) (x : Entry) → Contains (entries_at old h) x → Contains (entries_at new h) x ⊎ ((h ≡ f) × (e ≡ x))
+pub is_left : (f : ℕ) (e : Entry) (old new : OpenModel ℕ) → TakesEntry f e old new → (h : ℕ) (x : Entry) → Contains (entries_at old h) x → Contains (entries_at new h) x ⊎ ((h ≡ f) × (e ≡ x))
 is_left f e old new takes h x has =
     ⊎_elim
     (λ (here : h ≡ f).
@@ -46,7 +46,7 @@ is_left f e old new takes h x has =
     (cases_eq h f)
 
 -- what was there is there still
-pub stays : (f : ℕ) (e : Entry) (old new : OpenList ℕ) → Puts f e old new → (h : ℕ) (x : Entry) → Contains (entries_at old h) x → Contains (entries_at new h) x
+pub stays : (f : ℕ) (e : Entry) (old new : OpenModel ℕ) → PutsEntry f e old new → (h : ℕ) (x : Entry) → Contains (entries_at old h) x → Contains (entries_at new h) x
 stays f e old new puts h x has =
     ⊎_elim
     (λ (here : h ≡ f). subst (λ (k : ℕ). Contains (entries_at new k) x) (sym here) (subst (λ (xs : List Entry). Contains xs x) (sym puts.here) (Contains-append_left (entries_at old f) (e ∷ []) x (subst (λ (k : ℕ). Contains (entries_at old k) x) here has))))
@@ -54,7 +54,7 @@ stays f e old new puts h x has =
     (cases_eq h f)
 
 -- what is there was there, or was put
-pub was_put : (f : ℕ) (e : Entry) (old new : OpenList ℕ) → Puts f e old new → (h : ℕ) (x : Entry) → Contains (entries_at new h) x → Contains (entries_at old h) x ⊎ ((h ≡ f) × (e ≡ x))
+pub was_put : (f : ℕ) (e : Entry) (old new : OpenModel ℕ) → PutsEntry f e old new → (h : ℕ) (x : Entry) → Contains (entries_at new h) x → Contains (entries_at old h) x ⊎ ((h ≡ f) × (e ≡ x))
 was_put f e old new puts h x has =
     ⊎_elim
     (λ (here : h ≡ f).
@@ -66,11 +66,11 @@ was_put f e old new puts h x has =
     (cases_eq h f)
 
 -- what waits first is there
-pub is_there : (f : ℕ) (e : Entry) (list : OpenList ℕ) → IsNext f e list → Contains (entries_at list f) e
+pub is_there : (f : ℕ) (e : Entry) (list : OpenModel ℕ) → IsNextEntry f e list → Contains (entries_at list f) e
 is_there f e list first = subst (λ (xs : List Entry). Contains xs e) (sym first.last.1) (Contains-push first.last.0 e)
 
 -- no place is lost
-pub places_stay : (f : ℕ) (e : Entry) (old new : OpenList ℕ) → Takes f e old new → (h : ℕ) → places_at old h ≤ places_at new h
+pub places_stay : (f : ℕ) (e : Entry) (old new : OpenModel ℕ) → TakesEntry f e old new → (h : ℕ) → places_at old h ≤ places_at new h
 places_stay f e old new takes h =
     ⊎_elim
     (λ (here : h ≡ f). subst (λ (k : ℕ). places_at old k ≤ places_at new k) (sym here) (omega (arith, takes.places)))
@@ -78,12 +78,12 @@ places_stay f e old new takes h =
     (cases_eq h f)
 
 -- how many entries there are below f
-abbrev pub count_below : ℕ → OpenList ℕ → ℕ
+abbrev pub count_below : ℕ → OpenModel ℕ → ℕ
 count_below zero list = 0
 count_below (suc n) list = count_below n list + length (entries_at list n)
 
 -- one is taken below n
-pub one_less : (f : ℕ) (e : Entry) (old new : OpenList ℕ) → Takes f e old new → (n : ℕ) → f < n → count_below n old ≡ count_below n new + 1
+pub one_less : (f : ℕ) (e : Entry) (old new : OpenModel ℕ) → TakesEntry f e old new → (n : ℕ) → f < n → count_below n old ≡ count_below n new + 1
 one_less f e old new takes zero below = absurd (omega (arith, below))
 one_less f e old new takes (suc n) below =
     ⊎_elim
@@ -101,7 +101,7 @@ one_less f e old new takes (suc n) below =
 -- ---- order
 
 -- where nothing waits below n, no open board is below n
-pub none_below : (guide : Guide) (lists : Lists) (n : ℕ) → IsInOrder guide lists → NothingWaits lists.waiting n → NoneBelow guide lists.closed n
+pub none_below : (guide : Guide) (lists : SearchListsModel) (n : ℕ) → IsInOrder guide lists → NothingWaits lists.waiting n → NoneBelow guide lists.closed n
 none_below guide lists n order nothing key known opens =
     let waits = order.waits key known opens in
     ⊎_elim
@@ -113,27 +113,27 @@ none_below guide lists n order nothing key known opens =
     no_entry x has = omega (arith, has.1)
 
 -- the least f of all entries is no more than that of an open board
-pub least_below : (lists : Lists) (least : Option ℕ) → IsLowest lists.waiting least → IfSome least (λ f. (guide : Guide) → IsInOrder guide lists → NoneBelow guide lists.closed f)
+pub least_below : (lists : SearchListsModel) (least : Option ℕ) → IsLeastF lists.waiting least → IfSome least (λ f. (guide : Guide) → IsInOrder guide lists → NoneBelow guide lists.closed f)
 least_below lists None lowest = tt
 least_below lists (Some f) lowest = λ guide order. none_below guide lists f order lowest.1
 
 -- ---- entries in another order
 
 -- the least f stays
-pub lowest_sorted : (f : ℕ) (old new : OpenList ℕ) → Sorts f old new → IsLowest old (Some f) → IsLowest new (Some f)
+pub lowest_sorted : (f : ℕ) (old new : OpenModel ℕ) → Sorts f old new → IsLeastF old (Some f) → IsLeastF new (Some f)
 lowest_sorted f old new sorts lowest = (
   λ none. lowest.0 (nil_from_length (entries_at old f) (sym (length_permutation (entries_at old f) (entries_at new f) sorts.moved) ∙ ap length none)),
   λ h below. (sorts.others h (omega (arith, below))).0 ∙ lowest.1 h below,
 )
 
-module _ (old new : OpenList ℕ) (same : HasEntriesOf old new) where
+module _ (old new : OpenModel ℕ) (same : HasEntriesOf old new) where
   had : (h : ℕ) (x : Entry) → Contains (entries_at new h) x → Contains (entries_at old h) x
   had h x has = Contains-permutation (entries_at new h) (entries_at old h) x (IsPermutation-sym (entries_at old h) (entries_at new h) (same.entries h)) has
 
-  pub known_same : (closed : Table) → AreKnown (both closed old) → AreKnown (both closed new)
+  pub known_same : (closed : ClosedModel) → AreKnown (both closed old) → AreKnown (both closed new)
   known_same closed known h p c has = known h p c (had h (p, c) has)
 
-  pub order_same : (guide : Guide) (closed : Table) → IsInOrder guide (both closed old) → IsInOrder guide (both closed new)
+  pub order_same : (guide : Guide) (closed : ClosedModel) → IsInOrder guide (both closed old) → IsInOrder guide (both closed new)
   order_same guide closed order = record {
     waits = λ key known opens.
         let waits = order.waits key known opens in
@@ -147,10 +147,10 @@ module _ (old new : OpenList ℕ) (same : HasEntriesOf old new) where
   count_same (suc n) = λ t. count_same n t + length_permutation (entries_at old n) (entries_at new n) (same.entries n) t
 
 -- the entry is out of date: its board is closed, or has another cost
-abbrev pub IsStale : Table → ℕ → ℕ → Type 0
+abbrev pub IsStale : ClosedModel → ℕ → ℕ → Type 0
 IsStale closed place cost = (key : ℕ) (known : Known) → slice_get closed.keys place ≡ Some key → map.get closed.known key ≡ Some known → known.expanded ≡ false → known.cost ≢ cost
 
-module _ (guide : Guide) (closed : Table) (f place cost : ℕ) (old new : OpenList ℕ) (takes : Takes f (place, cost) old new) where
+module _ (guide : Guide) (closed : ClosedModel) (f place cost : ℕ) (old new : OpenModel ℕ) (takes : TakesEntry f (place, cost) old new) where
   place_of : {p c : ℕ} → ◌≡◌ {A = Entry} (place, cost) (p, c) → place ≡ p
   place_of e = ap (λ (x : Entry). x.0) e
 
@@ -178,16 +178,16 @@ module _ (guide : Guide) (closed : Table) (f place cost : ℕ) (old new : OpenLi
       shut = record known { expanded = true }
 
       -- the board that was closed is not open
-      never : (q : ℕ) (now : Known) → IsOpen guide (table_closure closed key (Some known)) q now → q ≡ key → ⊥
+      never : (q : ℕ) (now : Known) → IsOpenKey guide (table_closure closed key (Some known)) q now → q ≡ key → ⊥
       never q now opens same =
           let is : now ≡ shut = same_known (map.insert closed.known key shut) key now shut (ap (map.get (map.insert closed.known key shut)) (sym same) ∙ opens.knows) (get_inserted closed.known key shut) in
           let e : false ≡ true = sym opens.unexpanded ∙ ap (λ (k : Known). k.expanded) is in
           cc
 
-      still : (q : ℕ) (now : Known) → IsOpen guide (table_closure closed key (Some known)) q now → (map.get (map.insert closed.known key shut) q ≡ map.get closed.known q) ⊎ ((q ≡ key) × (map.get (map.insert closed.known key shut) q ≡ Some shut)) → (p : ℕ) × (slice_get closed.keys p ≡ Some q) × Contains (entries_at new (now.cost + guide.sum q)) (p, now.cost)
+      still : (q : ℕ) (now : Known) → IsOpenKey guide (table_closure closed key (Some known)) q now → (map.get (map.insert closed.known key shut) q ≡ map.get closed.known q) ⊎ ((q ≡ key) × (map.get (map.insert closed.known key shut) q ≡ Some shut)) → (p : ℕ) × (slice_get closed.keys p ≡ Some q) × Contains (entries_at new (now.cost + guide.sum q)) (p, now.cost)
       still q now opens (inr there) = absurd (never q now opens there.0)
       still q now opens (inl same) =
-          let was : IsOpen guide closed q now = record { knows = sym same ∙ opens.knows; unexpanded = opens.unexpanded; no_goal = opens.no_goal } in
+          let was : IsOpenKey guide closed q now = record { knows = sym same ∙ opens.knows; unexpanded = opens.unexpanded; no_goal = opens.no_goal } in
           let waits = order.waits q now was in
           ⊎_elim
           (λ (left : Contains (entries_at new (now.cost + guide.sum q)) (waits.0, now.cost)). (waits.0, waits.1, left))
@@ -237,14 +237,14 @@ kept_old (Some known) cost is = either (nat_lt cost known.cost) is
     either true e = absurd (cc)
     either false e = refl
 
-module _ (guide : Guide) (closed : Table) (met : Met) (old : OpenList ℕ) where
-  abbrev pub after : Table
+module _ (guide : Guide) (closed : ClosedModel) (met : Met) (old : OpenModel ℕ) where
+  abbrev pub after : ClosedModel
   after = table_relaxation closed met.key met.cost met.via
 
   abbrev pub found : Option Known
   found = map.get closed.known met.key
 
-  by : (q : ℕ) (now : Known) → IsOpen guide after q now → IsOpen guide closed q now ⊎ ((q ≡ met.key) × (now ≡ met_as met.cost met.via) × (is_news found met.cost ≡ true))
+  by : (q : ℕ) (now : Known) → IsOpenKey guide after q now → IsOpenKey guide closed q now ⊎ ((q ≡ met.key) × (now ≡ met_as met.cost met.via) × (is_news found met.cost ≡ true))
   by q now opens = ⊎_elim (λ (was : map.get closed.known q ≡ Some now). inl (record { knows = was; unexpanded = opens.unexpanded; no_goal = opens.no_goal })) (λ new. inr new) (relaxed_by found closed.known met.key met.cost met.via q now opens.knows)
 
   -- nothing is put: the cost is kept, or the board is the goal
@@ -252,7 +252,7 @@ module _ (guide : Guide) (closed : Table) (met : Met) (old : OpenList ℕ) where
   order_kept why order = record {
     waits = λ q now opens.
         ⊎_elim
-        (λ (was : IsOpen guide closed q now). let waits = order.waits q now was in (waits.0, grown found closed.keys met.key waits.0 q waits.1, waits.2))
+        (λ (was : IsOpenKey guide closed q now). let waits = order.waits q now was in (waits.0, grown found closed.keys met.key waits.0 q waits.1, waits.2))
         (λ (new : (q ≡ met.key) × (now ≡ met_as met.cost met.via) × (is_news found met.cost ≡ true)). absurd (never q opens.no_goal new.0 new.2 why))
         (by q now opens);
     adds = λ h p c has. let adds = order.adds h p c has in (adds.0, grown found closed.keys met.key p adds.0 adds.1, adds.2, adds.3, adds.4);
@@ -263,11 +263,11 @@ module _ (guide : Guide) (closed : Table) (met : Met) (old : OpenList ℕ) where
       never q other same news (inr goal) = other (same ∙ goal)
 
   -- the board is put
-  pub order_put : (place : ℕ) (new : OpenList ℕ) → slice_get after.keys place ≡ Some met.key → Puts met.f (place, met.cost) old new → met.key ≢ guide.goal → AddsUp guide met → IsInOrder guide (both closed old) → IsInOrder guide (both after new)
+  pub order_put : (place : ℕ) (new : OpenModel ℕ) → slice_get after.keys place ≡ Some met.key → PutsEntry met.f (place, met.cost) old new → met.key ≢ guide.goal → AddsUp guide met → IsInOrder guide (both closed old) → IsInOrder guide (both after new)
   order_put place new stands puts other sums order = record {
     waits = λ q now opens.
         ⊎_elim
-        (λ (was : IsOpen guide closed q now). let waits = order.waits q now was in (waits.0, grown found closed.keys met.key waits.0 q waits.1, stays met.f (place, met.cost) old new puts (now.cost + guide.sum q) (waits.0, now.cost) waits.2))
+        (λ (was : IsOpenKey guide closed q now). let waits = order.waits q now was in (waits.0, grown found closed.keys met.key waits.0 q waits.1, stays met.f (place, met.cost) old new puts (now.cost + guide.sum q) (waits.0, now.cost) waits.2))
         (λ (fresh : (q ≡ met.key) × (now ≡ met_as met.cost met.via) × (is_news found met.cost ≡ true)).
         let cost : now.cost ≡ met.cost = ap (λ (k : Known). k.cost) fresh.1 in
         let at : now.cost + guide.sum q ≡ met.f = (λ t. cost t + guide.sum (fresh.0 t)) ∙ sym sums.adds in (
@@ -288,7 +288,7 @@ module _ (guide : Guide) (closed : Table) (met : Met) (old : OpenList ℕ) where
         (was_put met.f (place, met.cost) old new puts h (p, c) has);
   }
 
-module _ (closed : Table) (met : Met) (old : OpenList ℕ) where
+module _ (closed : ClosedModel) (met : Met) (old : OpenModel ℕ) where
   -- what waits is known still
   pub known_kept : AreKnown (both closed old) → AreKnown (both (table_relaxation closed met.key met.cost met.via) old)
   known_kept known h p c has = longer (map.get closed.known met.key) (known h p c has)
@@ -297,7 +297,7 @@ module _ (closed : Table) (met : Met) (old : OpenList ℕ) where
       longer (Some k) within = within
       longer None within = omega (arith, within, length-append closed.keys (met.key ∷ []))
 
-  pub known_put : (place : ℕ) (new : OpenList ℕ) → slice_get (table_relaxation closed met.key met.cost met.via).keys place ≡ Some met.key → Puts met.f (place, met.cost) old new → AreKnown (both closed old) → AreKnown (both (table_relaxation closed met.key met.cost met.via) new)
+  pub known_put : (place : ℕ) (new : OpenModel ℕ) → slice_get (table_relaxation closed met.key met.cost met.via).keys place ≡ Some met.key → PutsEntry met.f (place, met.cost) old new → AreKnown (both closed old) → AreKnown (both (table_relaxation closed met.key met.cost met.via) new)
   known_put place new stands puts known h p c has =
       ⊎_elim
       (λ (was : Contains (entries_at old h) (p, c)). known_kept known h p c was)
@@ -307,7 +307,7 @@ module _ (closed : Table) (met : Met) (old : OpenList ℕ) where
 -- ---- what waits first
 
 -- where lists are in order, what waits first is an open board of least cost plus sum
-pub first_least : (guide : Guide) (lists : Lists) (next : Next) → IsInOrder guide lists → IsFirst lists next → IsLeastOpen guide lists.closed next
+pub first_least : (guide : Guide) (lists : SearchListsModel) (next : Next) → IsInOrder guide lists → IsFirst lists next → IsLeastOpen guide lists.closed next
 first_least guide lists next order first =
     let adds = order.adds next.f next.place next.cost (is_there next.f (next.place, next.cost) lists.waiting first.waits) in
     let same : Some adds.0 ≡ Some next.key = sym adds.1 ∙ first.place in
@@ -319,7 +319,7 @@ first_least guide lists next order first =
     }
 
 -- where no open board is below a bound above all, there is none
-pub none_open : (guide : Guide) (lists : Lists) (n : ℕ) → IsInOrder guide lists → NoneBelow guide lists.closed n → GREATEST_F < n → (key : ℕ) (known : Known) → IsOpen guide lists.closed key known → ⊥
+pub none_open : (guide : Guide) (lists : SearchListsModel) (n : ℕ) → IsInOrder guide lists → NoneBelow guide lists.closed n → GREATEST_F < n → (key : ℕ) (known : Known) → IsOpenKey guide lists.closed key known → ⊥
 none_open guide lists n order none high key known opens =
     let waits = order.waits key known opens in
     let adds = order.adds (known.cost + guide.sum key) waits.0 known.cost waits.2 in
@@ -328,7 +328,7 @@ none_open guide lists n order none high key known opens =
 -- ---- more room
 
 -- more places leave the order as it is
-pub order_with_room : (guide : Guide) (old new : Lists) → HasMoreRoom old new → IsInOrder guide old → IsInOrder guide new
+pub order_with_room : (guide : Guide) (old new : SearchListsModel) → HasMoreRoom old new → IsInOrder guide old → IsInOrder guide new
 order_with_room guide old new more order = record {
   waits = λ key known at.
       let place = order.waits key known (record { knows = ap (λ m. map.get m key) (sym more.known) ∙ at.knows; unexpanded = at.unexpanded; no_goal = at.no_goal }) in

@@ -1,16 +1,19 @@
 //! Known boards, and the places of those that wait to be expanded.
 
-ghost use Rattle.std.specs.Prelude.{◌≡◌, ◌≢◌, ◌⊎◌, ◌↔◌, ◌<◌, ◌≤◌, ◌+◌, ◌^◌, ℕ, None, Some, OnOk, OnErr};
-ghost use Rattle.std.specs.Prelude.{false, true, length, max, slice_index, slice_get, IfSome, IfNone, MatchOption, IsTrue, IsFalse};
+ghost use Rattle.std.specs.Prelude.{◌≡◌, ◌≢◌, ◌⊎◌, ◌↔◌, ◌<◌, ◌≤◌, ◌+◌, ◌^◌, ℕ, None, Some, OnOk};
+ghost use Rattle.std.specs.Prelude.{OnErr};
+ghost use Rattle.std.specs.Prelude.{false, true, length, max, slice_index, slice_get, IfSome};
+ghost use Rattle.std.specs.Prelude.{IfNone, MatchOption, IsTrue, IsFalse};
 ghost use Rattle.std.specs.FinMap as map;
 ghost use Rattle.closed_table.specs.Tables.{IsTable, table_relaxation, table_closure};
 ghost use Rattle.closed_table.specs.declared.table.Relaxed.TheVariants.{Kept};
 ghost use Rattle.open_buckets.specs.declared.open.TheConstants.{GREATEST_F};
-ghost use Rattle.open_buckets.specs.OpenLists.{places_at, NothingWaits, IsLowest, IsNext, Takes, Puts};
+ghost use Rattle.open_buckets.specs.OpenLists.{places_at, NothingWaits, IsLeastF, IsNextEntry};
+ghost use Rattle.open_buckets.specs.OpenLists.{TakesEntry, PutsEntry};
 ghost use Rattle.world_model.specs.Knowledge.{is_news};
 ghost use Rattle.search_lists.specs.declared.lists.TheConstants.{ROOM_AT_ONCE};
 ghost use Rattle.search_lists.specs.Lists.{empty_lists, both, AreKnown, HasMoreRoom, HasEntriesOf};
-ghost use Rattle.search_lists.specs.Orders.{Guide, IsInOrder, NoneBelow, IsFloor, IsFirst};
+ghost use Rattle.search_lists.specs.Orders.{Guide, IsInOrder, NoneBelow, IsFloorOfLists, IsFirst};
 ghost use Rattle.search_lists.specs.Orders.{IsLeastOpen, AddsUp};
 
 use board::Move;
@@ -60,9 +63,9 @@ pub struct SearchLists {
 }
 
 impl Model for SearchLists {
-    ghost use Rattle.search_lists.specs.Lists.{Lists, AreKnown, lists_code};
+    ghost use Rattle.search_lists.specs.Lists.{SearchListsModel, AreKnown, lists_code};
 
-    ghost Value = { Lists };
+    ghost Value = { SearchListsModel };
 
     ghost coded = { lists_code };
 
@@ -157,7 +160,7 @@ impl SearchLists {
             ⊎ (met.key ≡ goal) → self.new.waiting ≡ self.old.waiting }
         ensures put { is_news (map.get self.old.closed.known met.key) met.cost ≡ true
             → met.key ≢ goal → (place : ℕ) × (slice_get self.new.closed.keys place ≡ Some met.key)
-            × Puts met.f (place, met.cost) self.old.waiting self.new.waiting }
+            × PutsEntry met.f (place, met.cost) self.old.waiting self.new.waiting }
         ensures places { (h : ℕ) → places_at self.old.waiting h
             ≤ places_at self.new.waiting h + 1 }
         ensures order { (guide : Guide) → guide.goal ≡ goal → AddsUp guide met
@@ -197,7 +200,7 @@ impl SearchLists {
         ensures places { (h : ℕ) → places_at self.old.waiting h ≤ places_at self.new.waiting h }
         ensures order { (guide : Guide) → IsInOrder guide self.old → IsInOrder guide self.new }
         ensures floor { (guide : Guide) → IsInOrder guide self.old
-            → IsFloor guide self.old.closed result }
+            → IsFloorOfLists guide self.old.closed result }
     {
         let Some(next) = self.next(u32::MAX) else {
             return None;
@@ -208,7 +211,7 @@ impl SearchLists {
     /// The least f of all entries, also of those out of date: no open board has a lower cost plus sum.
     /// None where nothing waits.
     pub fn least(&self) -> Option<u32>
-        ensures least { IsLowest self.now.waiting result }
+        ensures least { IsLeastF self.now.waiting result }
         ensures bound { IfSome result (λ f. (guide : Guide) → IsInOrder guide self.now
             → NoneBelow guide self.now.closed f) }
     {
@@ -218,7 +221,7 @@ impl SearchLists {
     /// Closes the board that was answered last by `next`, and takes it out of what waits.
     pub fn close(&mut self, next: Next)
         requires { IsFirst self.old next }
-        ensures taken { Takes next.f (next.place, next.cost) self.old.waiting self.new.waiting }
+        ensures taken { TakesEntry next.f (next.place, next.cost) self.old.waiting self.new.waiting }
         ensures closed { self.new.closed ≡ table_closure self.old.closed next.key
             (map.get self.old.closed.known next.key) }
         ensures places { (h : ℕ) → places_at self.old.waiting h ≤ places_at self.new.waiting h }
@@ -288,7 +291,7 @@ fn relax(closed: &mut Closed, waiting: &mut Open<u32>, goal: u128, met: Met)
         ⊎ (met.key ≡ goal) → waiting.new ≡ waiting.old }
     ensures put { is_news (map.get closed.old.known met.key) met.cost ≡ true
         → met.key ≢ goal → (place : ℕ) × (slice_get closed.new.keys place ≡ Some met.key)
-        × Puts met.f (place, met.cost) waiting.old waiting.new }
+        × PutsEntry met.f (place, met.cost) waiting.old waiting.new }
     ensures places { (h : ℕ) → places_at waiting.old h ≤ places_at waiting.new h + 1 }
     ensures order { (guide : Guide) → guide.goal ≡ goal → AddsUp guide met
         → IsInOrder guide (both closed.old waiting.old)
@@ -363,7 +366,7 @@ struct Waiting {
 fn first_waiting(waiting: &mut Open<u32>, ordered: &mut u32, below: u32) -> Option<Waiting>
     ensures same { HasEntriesOf waiting.old waiting.new }
     ensures next { MatchOption result (NothingWaits waiting.new below)
-        (λ first. (first.f < below) × IsNext first.f (first.place, first.cost) waiting.new) }
+        (λ first. (first.f < below) × IsNextEntry first.f (first.place, first.cost) waiting.new) }
 {
     let Some(f) = lowest_in_order(waiting, ordered) else {
         return None;
@@ -381,7 +384,7 @@ fn first_waiting(waiting: &mut Open<u32>, ordered: &mut u32, below: u32) -> Opti
 // cost: a board of greater cost is nearer to the goal, so it is taken first.
 fn lowest_in_order(waiting: &mut Open<u32>, ordered: &mut u32) -> Option<u32>
     ensures same { HasEntriesOf waiting.old waiting.new }
-    ensures lowest { IsLowest waiting.new result }
+    ensures lowest { IsLeastF waiting.new result }
 {
     let Some(f) = waiting.lowest() else {
         return None;
@@ -395,9 +398,9 @@ fn lowest_in_order(waiting: &mut Open<u32>, ordered: &mut u32) -> Option<u32>
 
 // Takes out what waits next.
 fn take_first(waiting: &mut Open<u32>, first: Waiting)
-    requires first { IsNext first.f (first.place, first.cost) waiting.old }
+    requires first { IsNextEntry first.f (first.place, first.cost) waiting.old }
     requires within { first.f + 1 < 2 ^ 32 }
-    ensures { Takes first.f (first.place, first.cost) waiting.old waiting.new }
+    ensures { TakesEntry first.f (first.place, first.cost) waiting.old waiting.new }
 {
     the_next_is_taken::<u32>();
     let Some(_) = waiting.take_lowest(first.f + 1) else {

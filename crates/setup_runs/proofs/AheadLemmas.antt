@@ -2,12 +2,12 @@
 use Rattle.std.proofs.Common.{◌≡◌, ◌++◌, ◌∷◌, [], All, Bool, true, false, if◌then◌else◌, Some, Vec, subst, sym}
 use Rattle.std.proofs.lemmas.List.Elements.{All-nil, All-push}
 use Rattle.std.specs.declared.alloc.Global.{Global}
-use Rattle.batch_runs.specs.Setups.{SetupState}
+use Rattle.batch_runs.specs.Setups.{SetupModel}
 use Rattle.setup_runs.specs.Ahead.{AreEnded}
 use Rattle.setup_runs.specs.Solving.{MayAnswer, HasStats}
 use Rattle.setup_runs.specs.declared.ahead.Ended.{Ended}
 
-module _ (setup : SetupState) where
+module _ (setup : SetupModel) where
   abbrev pub IsEnded : Ended → Type 0
   IsEnded it = MayAnswer setup it.board (Some it.solved.ending)
 

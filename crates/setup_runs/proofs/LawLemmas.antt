@@ -2,7 +2,7 @@
 use Rattle.std.proofs.Common.{arith, ℕ, ◌≡◌, ◌≤◌, ◌+◌, ◌*◌, ◌++◌, List, Option, Vec, ◌∙◌, ◌⊎◌, refl, ap, subst, inl, inr}
 use Rattle.std.specs.declared.alloc.Global.{Global}
 use Rattle.board.specs.declared.moves.Move.{Move}
-use Rattle.board.specs.Positions.{Position}
+use Rattle.board.specs.Boards.{BoardModel}
 use Rattle.outcomes.specs.declared.outcome.Ending.TheVariants.{Bounded}
 use Rattle.world_model.specs.declared.steps.Refusal.{Refusal}
 use Rattle.world_model.specs.declared.steps.Step.{Step}
@@ -18,7 +18,7 @@ use Rattle.world_model.specs.Credit.{expansion_count}
 use Rattle.world_model.specs.declared.limits.TheConstants.{GREATEST_GRANT}
 use Rattle.world_ends.proofs.PartLemmas.{ends_bounded}
 use Rattle.world_model.proofs.KeptLemmas.{causes_stop}
-use Rattle.batch_runs.specs.Setups.{SetupState, owner_by}
+use Rattle.batch_runs.specs.Setups.{SetupModel, owner_by}
 use Rattle.setup_runs.specs.Laws.{StatsAreOfTheSetups, job_by, BoundsAreNeverCut, LimitsAreTheSetups, LimitsAreNearlySpent, StatsAreOfWorlds, StatsAreWithinTheLimit}
 use Rattle.std.specs.FinMap as map
 use Rattle.std.specs.Prelude.{min, ◌^◌, ◌-◌, sum_by}
@@ -34,16 +34,16 @@ never_cut setup b bound best cause (answers, inr (other, is)) = absurd (cc)
 
 -- what one worker ends is of steps that have expanded just as many boards
 limits_alone :
-    (setup : SetupState) (b : Position) (bound : ℕ) (best : Option (ℕ × Vec Move Global))
+    (setup : SetupModel) (b : BoardModel) (bound : ℕ) (best : Option (ℕ × Vec Move Global))
     → IsFoundAlone EndsIn owner_by (problem_of setup b) setup.spread (Bounded bound best Limit)
-    → (owner : Position → ℕ) × (via : Move) × (made : List (Step × Option Refusal)) × (w : WorldState)
+    → (owner : BoardModel → ℕ) × (via : Move) × (made : List (Step × Option Refusal)) × (w : WorldState)
     × IsRun (opening (job_by owner setup b) via) made w × (expansion_count w ≡ setup.limit)
 limits_alone setup b bound best (w, run, given) =
     ((job_of owner_by (problem_of setup b) setup.spread 1).owner, run.via, run.first ++ run.last, w, run.run, run.spent ((causes_stop w bound best Limit (ends_bounded w bound best Limit given)).0 refl))
 
 -- where one worker ends a board with a bound, its limit is the setup's
 bounds_alone :
-    (setup : SetupState) (b : Position) (bound : ℕ) (best : Option (ℕ × Vec Move Global))
+    (setup : SetupModel) (b : BoardModel) (bound : ℕ) (best : Option (ℕ × Vec Move Global))
     → IsFoundByOne EndsIn (λ it. it) setup b (Bounded bound best Limit)
     → IsFoundAlone EndsIn owner_by (problem_of setup b) setup.spread (Bounded bound best Limit)
 bounds_alone setup b bound best (limit, found) = by_limit found.whole
@@ -63,7 +63,7 @@ all_spent : (limit spent more : ℕ) → spent ≡ limit → limit ≤ spent + m
 all_spent limit spent more e = omega (arith, e)
 
 nearly_alone :
-    (setup : SetupState) (b : Position) (bound : ℕ) (best : Option (ℕ × Vec Move Global))
+    (setup : SetupModel) (b : BoardModel) (bound : ℕ) (best : Option (ℕ × Vec Move Global))
     → IsFoundAlone EndsIn owner_by (problem_of setup b) setup.spread (Bounded bound best Limit)
     → (w : WorldState) × EndsIn w (Bounded bound best Limit)
     × (expansion_count w ≤ setup.limit) × (setup.limit ≤ expansion_count w + GREATEST_GRANT * setup.workers)
@@ -102,9 +102,9 @@ stats_of_worlds setup start solved (figures, of_run, stats) = (of_world, no_run,
     no_run other = (stats.expanded ∙ ap (λ (f : Figures). min f.expanded (2 ^ 64 - 1)) (of_run.apart other), stats.known ∙ ap (λ (f : Figures). min f.known (2 ^ 64 - 1)) (of_run.apart other))
 
 -- so do those of one worker, whose steps begin at the opening world
-abbrev CountsAlone : SetupState → Position → Solved → Type 0
+abbrev CountsAlone : SetupModel → BoardModel → Solved → Type 0
 CountsAlone setup start solved =
-    (owner : Position → ℕ) × (via : Move) × (made : List (Step × Option Refusal)) × (w : WorldState)
+    (owner : BoardModel → ℕ) × (via : Move) × (made : List (Step × Option Refusal)) × (w : WorldState)
     × IsRun (opening (job_by owner setup start) via) made w × EndsIn w solved.ending × (solved.stats.expanded ≡ min (expansion_count w) (2 ^ 64 - 1))
 
 pub stats_of_setups : StatsAreOfTheSetups

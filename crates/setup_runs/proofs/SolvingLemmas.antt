@@ -1,6 +1,6 @@
 -- What the setup's workers answer is what its rules allow.
 use Rattle.std.proofs.Common.{ℕ, ◌≡◌, ◌⊎◌, ◌↔◌, ◌≤◌, None, Some, Result, Ok, Err, IfOk, refl, ap, subst, inl, inr, sym, arith}
-use Rattle.board.specs.Positions.{Position}
+use Rattle.board.specs.Boards.{BoardModel}
 use Rattle.board.specs.Classes.{SameClass}
 use Rattle.memory.specs.declared.OutOfMemory.{OutOfMemory}
 use Rattle.outcomes.specs.declared.outcome.Ending.{Ending}
@@ -9,7 +9,7 @@ use Rattle.outcomes.specs.declared.outcome.Why.TheVariants.{Parity}
 use Rattle.outcomes.specs.Endings.{without_rows, EndAnswers}
 use Rattle.hda_run.specs.Alone.{IsRunAlone, IsFoundAlone}
 use Rattle.hda_run.specs.WholeRuns.{EndsWholeRun, HasWholeRun}
-use Rattle.hda_run.specs.Problems.{task_in}
+use Rattle.hda_run.specs.Jobs.{task_in}
 use Rattle.hda_run.proofs.LawLemmas.{one_class}
 use Rattle.world_model.specs.Openings.{Job}
 use Rattle.world_model.specs.Quiet.{IsKept}
@@ -20,7 +20,7 @@ use Rattle.world_ends.specs.declared.figures.Figures.{Figures}
 use Rattle.world_ends.specs.declared.reading.EndingWithFigures.{EndingWithFigures}
 use Rattle.owners.specs.Owners.{AreWorkers, owner_by_hash-lt, owner_by_blank-lt}
 use Rattle.batch_runs.specs.declared.setup.SpreadKind.TheVariants.{Zobrist, Blank}
-use Rattle.batch_runs.specs.Setups.{SetupState, owner_by, task_of}
+use Rattle.batch_runs.specs.Setups.{SetupModel, owner_by, task_of}
 use Rattle.batch_runs.specs.Batches.{IsTruthful}
 use Rattle.thread_joins.specs.Threads.{IsJoined}
 use Rattle.thread_runs.specs.Solved.{IsFoundByWorkers, IsLeftToOne}
@@ -42,8 +42,8 @@ pub setup_owners : AreWorkers owner_by
 setup_owners Zobrist = owner_by_hash-lt
 setup_owners Blank = owner_by_blank-lt
 
-module _ {S T : Type 0} (owner_of : S → ℕ → Position → ℕ) (are : AreWorkers owner_of) (owners : S) (other_of : T → ℕ → Position → ℕ) (others_are : AreWorkers other_of) (others : T) where
-  lone_board : (b : Position) → owner_of owners 1 b ≡ other_of others 1 b
+module _ {S T : Type 0} (owner_of : S → ℕ → BoardModel → ℕ) (are : AreWorkers owner_of) (owners : S) (other_of : T → ℕ → BoardModel → ℕ) (others_are : AreWorkers other_of) (others : T) where
+  lone_board : (b : BoardModel) → owner_of owners 1 b ≡ other_of others 1 b
   lone_board b =
       let mine = are owners 1 b (omega arith) in
       let its = others_are others 1 b (omega arith) in
@@ -54,34 +54,34 @@ module _ {S T : Type 0} (owner_of : S → ℕ → Position → ℕ) (are : AreWo
   lone_owner = λ t b. lone_board b t
 
   -- so do as many workers as there are, where there is one
-  pub lone_shares : (n : ℕ) → n ≡ 1 → (b : Position) → owner_of owners n b ≡ other_of others n b
+  pub lone_shares : (n : ℕ) → n ≡ 1 → (b : BoardModel) → owner_of owners n b ≡ other_of others n b
   lone_shares n one b = subst (λ (count : ℕ). owner_of owners count b ≡ other_of others count b) (sym one) (lone_board b)
 
 -- ---- The boards of a setup, in each reading.
 
-module _ {X : Type 0} (gives : WorldState → X → Type 0) (setup : SetupState) (start : Position) where
+module _ {X : Type 0} (gives : WorldState → X → Type 0) (setup : SetupModel) (start : BoardModel) where
   -- what the setup's workers find, where boards have these owners
-  abbrev pub Finds : {S : Type 0} → (S → ℕ → Position → ℕ) → S → X → Type 0
+  abbrev pub Finds : {S : Type 0} → (S → ℕ → BoardModel → ℕ) → S → X → Type 0
   Finds owner_of owners answer = IsFoundByWorkers gives owner_of (problem_of setup start) owners setup.workers answer
 
   -- what so many workers do that own each board by this
-  abbrev job_owned : ℕ → (Position → ℕ) → Job
+  abbrev job_owned : ℕ → (BoardModel → ℕ) → Job
   job_owned n owner = record { task = task_in (problem_of setup start); limit = setup.limit; count = n; owner = owner }
 
-  abbrev JoinedOwned : X → (Position → ℕ) → Type 0
+  abbrev JoinedOwned : X → (BoardModel → ℕ) → Type 0
   JoinedOwned answer owner = (w : WorldState) × IsJoined (job_owned setup.workers owner) w × (IsKept w × gives w answer)
 
-  abbrev AloneOwned : ℕ → X → (Position → ℕ) → Type 0
+  abbrev AloneOwned : ℕ → X → (BoardModel → ℕ) → Type 0
   AloneOwned limit answer owner = (w : WorldState) × IsRunAlone (record (job_owned 1 owner) { limit = limit }) w × gives w answer
 
-  abbrev LeftOwned : (Position → ℕ) → Type 0
+  abbrev LeftOwned : (BoardModel → ℕ) → Type 0
   LeftOwned owner = (w : WorldState) × IsJoined (job_owned setup.workers owner) w × (¬ IsKept w)
 
   -- one worker finds the same, whoever the owners are
-  pub alone_any : (limit : ℕ) {S T : Type 0} (owner_of : S → ℕ → Position → ℕ) → AreWorkers owner_of → (owners : S) (other_of : T → ℕ → Position → ℕ) → AreWorkers other_of → (others : T) (answer : X) → IsFoundAlone gives owner_of (problem_within limit setup start) owners answer → IsFoundAlone gives other_of (problem_within limit setup start) others answer
+  pub alone_any : (limit : ℕ) {S T : Type 0} (owner_of : S → ℕ → BoardModel → ℕ) → AreWorkers owner_of → (owners : S) (other_of : T → ℕ → BoardModel → ℕ) → AreWorkers other_of → (others : T) (answer : X) → IsFoundAlone gives owner_of (problem_within limit setup start) owners answer → IsFoundAlone gives other_of (problem_within limit setup start) others answer
   alone_any limit owner_of are owners other_of others_are others answer run = subst (AloneOwned limit answer) (lone_owner owner_of are owners other_of others_are others) run
 
-  module _ {S T : Type 0} (owner_of : S → ℕ → Position → ℕ) (are : AreWorkers owner_of) (owners : S) (other_of : T → ℕ → Position → ℕ) (others_are : AreWorkers other_of) (others : T) (same : (b : Position) → owner_of owners setup.workers b ≡ other_of others setup.workers b) where
+  module _ {S T : Type 0} (owner_of : S → ℕ → BoardModel → ℕ) (are : AreWorkers owner_of) (owners : S) (other_of : T → ℕ → BoardModel → ℕ) (others_are : AreWorkers other_of) (others : T) (same : (b : BoardModel) → owner_of owners setup.workers b ≡ other_of others setup.workers b) where
     -- what is left to one worker is so, whatever gives each board the same owner
     left_any : IsLeftToOne owner_of (problem_of setup start) owners setup.workers → IsLeftToOne other_of (problem_of setup start) others setup.workers
     left_any (inl one) = inl one
@@ -97,7 +97,7 @@ module _ {X : Type 0} (gives : WorldState → X → Type 0) (setup : SetupState)
     found_so end (Err refused) found = found
 
 -- what one of the setup's workers finds within a limit is what a search may answer
-pub searched_by_one : {X : Type 0} (gives : WorldState → X → Type 0) (answers : Task → X → Type 0) (end : X → Ending) (parity : X) (setup : SetupState) (start : Position) (limit : ℕ) {S : Type 0} (owner_of : S → ℕ → Position → ℕ) → AreWorkers owner_of → (owners : S) (answer : X) → limit ≤ setup.limit → (limit ≡ setup.limit) ⊎ ((2 ≤ setup.workers) × IsNoBound (end answer)) → (◌≡◌ {A = Result X OutOfMemory} (Ok answer) (Ok parity)) ↔ (¬ SameClass start setup.goal) → (SameClass start setup.goal → IsFoundAlone gives owner_of (problem_within limit setup start) owners answer) → answers (task_of setup start) answer → EndsWholeRun (end answer) → IsSearched gives answers end parity setup start (Ok answer)
+pub searched_by_one : {X : Type 0} (gives : WorldState → X → Type 0) (answers : Task → X → Type 0) (end : X → Ending) (parity : X) (setup : SetupModel) (start : BoardModel) (limit : ℕ) {S : Type 0} (owner_of : S → ℕ → BoardModel → ℕ) → AreWorkers owner_of → (owners : S) (answer : X) → limit ≤ setup.limit → (limit ≡ setup.limit) ⊎ ((2 ≤ setup.workers) × IsNoBound (end answer)) → (◌≡◌ {A = Result X OutOfMemory} (Ok answer) (Ok parity)) ↔ (¬ SameClass start setup.goal) → (SameClass start setup.goal → IsFoundAlone gives owner_of (problem_within limit setup start) owners answer) → answers (task_of setup start) answer → EndsWholeRun (end answer) → IsSearched gives answers end parity setup start (Ok answer)
 searched_by_one gives answers end parity setup start limit owner_of are owners answer within whole at_parity run answered kept =
     record {
       at_parity = at_parity;
@@ -119,7 +119,7 @@ error_of refused = Err refused
 is_no_error : {X : Type 0} (refused : OutOfMemory) (parity : X) → error_of refused ≡ Ok parity → ⊥
 is_no_error refused parity e = absurd (cc)
 
-module _ {X : Type 0} (answers : Task → X → Type 0) (is_of_run : X → Type 0) (parity : X) (setup : SetupState) (start : Position) where
+module _ {X : Type 0} (answers : Task → X → Type 0) (is_of_run : X → Type 0) (parity : X) (setup : SetupModel) (start : BoardModel) where
   -- the board is answered so, or memory is wanting
   abbrev pub Gives : Result X OutOfMemory → Type 0
   Gives (Ok answer) = AnswersBoard answers is_of_run parity setup start (Some answer)
@@ -141,7 +141,7 @@ both : {X : Type 0} (P Q : X → Type 0) (result : Result X OutOfMemory) → IfO
 both P Q (Ok answer) p q = (p, q)
 both P Q (Err refused) p q = p
 
-module _ (setup : SetupState) (start : Position) where
+module _ (setup : SetupModel) (start : BoardModel) where
   -- what they find with figures, without these
   abbrev pub ending_of : Result EndingWithFigures OutOfMemory → Result Ending OutOfMemory
   ending_of (Ok found) = Ok found.ending
@@ -164,7 +164,7 @@ module _ (setup : SetupState) (start : Position) where
       gives_so EndAnswers (IsOfRun setup start) (Unsolvable Parity) setup start (Err refused) (λ other. ap ending_of (by_parity other)) (λ together. run together) answered
 
   -- so is what one of them ends, within a limit
-  pub may_end : (limit : ℕ) {S : Type 0} (owner_of : S → ℕ → Position → ℕ) → AreWorkers owner_of → (owners : S) (figures : Figures) (found : EndingWithFigures) → limit ≤ setup.limit → (limit ≡ setup.limit) ⊎ ((2 ≤ setup.workers) × IsNoBound found.ending) → (¬ SameClass start setup.goal → ◌≡◌ {A = Result EndingWithFigures OutOfMemory} (Ok found) (Ok (record { ending = Unsolvable Parity; figures = figures }))) → (SameClass start setup.goal → IsFoundAlone EndsWithFigures owner_of (problem_within limit setup start) owners found) → EndAnswers (task_of setup start) found.ending → EndsWholeRun found.ending → MayAnswer setup start (Some found.ending)
+  pub may_end : (limit : ℕ) {S : Type 0} (owner_of : S → ℕ → BoardModel → ℕ) → AreWorkers owner_of → (owners : S) (figures : Figures) (found : EndingWithFigures) → limit ≤ setup.limit → (limit ≡ setup.limit) ⊎ ((2 ≤ setup.workers) × IsNoBound found.ending) → (¬ SameClass start setup.goal → ◌≡◌ {A = Result EndingWithFigures OutOfMemory} (Ok found) (Ok (record { ending = Unsolvable Parity; figures = figures }))) → (SameClass start setup.goal → IsFoundAlone EndsWithFigures owner_of (problem_within limit setup start) owners found) → EndAnswers (task_of setup start) found.ending → EndsWholeRun found.ending → MayAnswer setup start (Some found.ending)
   may_end limit owner_of are owners figures found within whole by_parity run answered kept =
       gives_so EndAnswers (IsOfRun setup start) (Unsolvable Parity) setup start (Ok found.ending) (λ other. ap ending_of (by_parity other)) (λ together. (inr (by_one (run together)), kept)) answered
     where
@@ -185,7 +185,7 @@ module _ (setup : SetupState) (start : Position) where
   pub workers_have_stats : (found : EndingWithFigures) (solved : Solved) → (¬ SameClass start setup.goal → ◌≡◌ {A = Result EndingWithFigures OutOfMemory} (Ok found) (Ok (record { ending = Unsolvable Parity; figures = record { expanded = 0; known = 0 } }))) → (SameClass start setup.goal → IsFound EndsWithFigures (λ it. it.ending) setup start found) → solved.ending ≡ found.ending → AreStatsOf setup start found.figures solved.stats → HasStats setup start solved
   workers_have_stats found solved by_parity run same stats = has_stats found solved (no_run_figures found by_parity) run same stats
 
-  pub one_has_stats : (limit : ℕ) {S : Type 0} (owner_of : S → ℕ → Position → ℕ) → AreWorkers owner_of → (owners : S) (found : EndingWithFigures) (solved : Solved) → limit ≤ setup.limit → (limit ≡ setup.limit) ⊎ ((2 ≤ setup.workers) × IsNoBound found.ending) → (¬ SameClass start setup.goal → ◌≡◌ {A = Result EndingWithFigures OutOfMemory} (Ok found) (Ok (record { ending = Unsolvable Parity; figures = record { expanded = 0; known = 0 } }))) → (SameClass start setup.goal → IsFoundAlone EndsWithFigures owner_of (problem_within limit setup start) owners found) → solved.ending ≡ found.ending → AreStatsOf setup start found.figures solved.stats → HasStats setup start solved
+  pub one_has_stats : (limit : ℕ) {S : Type 0} (owner_of : S → ℕ → BoardModel → ℕ) → AreWorkers owner_of → (owners : S) (found : EndingWithFigures) (solved : Solved) → limit ≤ setup.limit → (limit ≡ setup.limit) ⊎ ((2 ≤ setup.workers) × IsNoBound found.ending) → (¬ SameClass start setup.goal → ◌≡◌ {A = Result EndingWithFigures OutOfMemory} (Ok found) (Ok (record { ending = Unsolvable Parity; figures = record { expanded = 0; known = 0 } }))) → (SameClass start setup.goal → IsFoundAlone EndsWithFigures owner_of (problem_within limit setup start) owners found) → solved.ending ≡ found.ending → AreStatsOf setup start found.figures solved.stats → HasStats setup start solved
   one_has_stats limit owner_of are owners found solved within whole by_parity run same stats = has_stats found solved (no_run_figures found by_parity) (λ together. inr (by_one (run together))) same stats
     where
       by_one : IsFoundAlone EndsWithFigures owner_of (problem_within limit setup start) owners found → IsFoundByOne EndsWithFigures (λ it. it.ending) setup start found
@@ -217,7 +217,7 @@ module _ (setup : SetupState) (start : Position) where
       as_rules (Err refused) allowed = allowed
 
 -- what a setup allows is true
-pub setup_truthful : (setup : SetupState) → IsTruthful (rules_of setup)
+pub setup_truthful : (setup : SetupModel) → IsTruthful (rules_of setup)
 setup_truthful setup b ending allowed = allowed.0
 
 pub parity_certified : ParityIsCertified

@@ -3,7 +3,7 @@ use Rattle.std.specs.Prelude.{ℕ, ◌≡◌, ◌≢◌, ◌⊎◌, ◌≤◌, �
 use Rattle.std.specs.FinMap as map
 use Rattle.std.specs.declared.alloc.Global.{Global}
 use Rattle.board.specs.declared.moves.Move.{Move}
-use Rattle.board.specs.Positions.{Position}
+use Rattle.board.specs.Boards.{BoardModel}
 use Rattle.board.specs.Classes.{SameClass}
 use Rattle.outcomes.specs.declared.outcome.Ending.{Ending}
 use Rattle.outcomes.specs.declared.outcome.Cause.{Cause}
@@ -23,42 +23,42 @@ use Rattle.world_model.specs.Credit.{expansion_count}
 use Rattle.world_model.specs.Openings.{Job, opening}
 use Rattle.world_model.specs.Steps.{IsRun}
 use Rattle.world_model.specs.Worlds.{WorldState}
-use Rattle.batch_runs.specs.Setups.{SetupState, task_of}
+use Rattle.batch_runs.specs.Setups.{SetupModel, task_of}
 use Rattle.batch_runs.specs.declared.stats.Solved.{Solved}
 use Rattle.setup_runs.specs.Solving.{MayAnswer, MayCertify, HasStats}
 
 -- a board of the other class is refused for no want of memory
 abbrev pub ParityWantsNoMemory : Type 0
-ParityWantsNoMemory = (setup : SetupState) (b : Position) → ¬ SameClass b setup.goal → ¬ MayAnswer setup b None
+ParityWantsNoMemory = (setup : SetupModel) (b : BoardModel) → ¬ SameClass b setup.goal → ¬ MayAnswer setup b None
 
 -- and it is answered by its parity alone
 abbrev pub ParityIsAnswered : Type 0
-ParityIsAnswered = (setup : SetupState) (b : Position) (ending : Ending) → ¬ SameClass b setup.goal → MayAnswer setup b (Some ending) → ending ≡ Unsolvable Parity
+ParityIsAnswered = (setup : SetupModel) (b : BoardModel) (ending : Ending) → ¬ SameClass b setup.goal → MayAnswer setup b (Some ending) → ending ≡ Unsolvable Parity
 
 -- no bound is answered for which a run was cut, a thread was wanting, or a want of memory was only stated
 abbrev pub BoundsAreNeverCut : Type 0
 BoundsAreNeverCut =
-    (setup : SetupState) (b : Position) (bound : ℕ) (best : Option (ℕ × Vec Move Global)) (cause : Cause)
+    (setup : SetupModel) (b : BoardModel) (bound : ℕ) (best : Option (ℕ × Vec Move Global)) (cause : Cause)
     → MayAnswer setup b (Some (Bounded bound best cause))
     → (cause ≢ Cut) × (cause ≢ Start) × (cause ≢ Memory Stated)
 
 -- what one worker does for a board of the setup, where boards are owned so
-abbrev pub job_by : (Position → ℕ) → SetupState → Position → Job
+abbrev pub job_by : (BoardModel → ℕ) → SetupModel → BoardModel → Job
 job_by owner setup b = record { task = task_of setup b; limit = setup.limit; count = 1; owner = owner }
 
 -- where one is for the limit and there is one worker, steps from the opening world of the board's job have expanded just as many boards as the setup says
 abbrev pub LimitsAreTheSetups : Type 0
 LimitsAreTheSetups =
-    (setup : SetupState) (b : Position) (bound : ℕ) (best : Option (ℕ × Vec Move Global))
+    (setup : SetupModel) (b : BoardModel) (bound : ℕ) (best : Option (ℕ × Vec Move Global))
     → setup.workers ≡ 1
     → MayAnswer setup b (Some (Bounded bound best Limit))
-    → (owner : Position → ℕ) × (via : Move) × (made : List (Step × Option Refusal)) × (w : WorldState)
+    → (owner : BoardModel → ℕ) × (via : Move) × (made : List (Step × Option Refusal)) × (w : WorldState)
     × IsRun (opening (job_by owner setup b) via) made w × (expansion_count w ≡ setup.limit)
 
 -- of any number of workers, the world that gives it has expanded no more than that, and all of it but for one grant for each worker
 abbrev pub LimitsAreNearlySpent : Type 0
 LimitsAreNearlySpent =
-    (setup : SetupState) (b : Position) (bound : ℕ) (best : Option (ℕ × Vec Move Global))
+    (setup : SetupModel) (b : BoardModel) (bound : ℕ) (best : Option (ℕ × Vec Move Global))
     → MayAnswer setup b (Some (Bounded bound best Limit))
     → (w : WorldState) × EndsIn w (Bounded bound best Limit)
     × (expansion_count w ≤ setup.limit) × (setup.limit ≤ expansion_count w + GREATEST_GRANT * setup.workers)
@@ -66,7 +66,7 @@ LimitsAreNearlySpent =
 -- the same holds where rows are asked for: a board of the other class is refused for no want of memory, and answered by its parity
 abbrev pub ParityIsCertified : Type 0
 ParityIsCertified =
-    (setup : SetupState) (b : Position)
+    (setup : SetupModel) (b : BoardModel)
     → ¬ SameClass b setup.goal
     → (¬ MayCertify setup b None) × ((given : Outcome) → MayCertify setup b (Some given) → given ≡ outcome.Unsolvable Parity)
 
@@ -78,12 +78,12 @@ IsAloneBound (outcome.Bounded bound best cause rows) = (rows ≡ None) × Stands
 
 -- what may be certified may be answered, but for its rows, by a batch too, if it is no such bound
 abbrev pub CertifiedEndsAreAnswered : Type 0
-CertifiedEndsAreAnswered = (setup : SetupState) (b : Position) (given : Outcome) → MayCertify setup b (Some given) → MayAnswer setup b (Some (without_rows given)) ⊎ IsAloneBound given
+CertifiedEndsAreAnswered = (setup : SetupModel) (b : BoardModel) (given : Outcome) → MayCertify setup b (Some given) → MayAnswer setup b (Some (without_rows given)) ⊎ IsAloneBound given
 
 -- The stats of a board count what a world that ends so has expanded, and knows, up to 2^64 - 1. Without a search they are 0. The start's sum is the task's own.
 abbrev pub StatsAreOfWorlds : Type 0
 StatsAreOfWorlds =
-    (setup : SetupState) (start : Position) (solved : Solved)
+    (setup : SetupModel) (start : BoardModel) (solved : Solved)
     → HasStats setup start solved
     → (SameClass start setup.goal → (w : WorldState)
     × EndsIn w solved.ending × (solved.stats.expanded ≡ min (expansion_count w) (2 ^ 64 - 1))
@@ -94,13 +94,13 @@ StatsAreOfWorlds =
 -- Where one worker solves a board of the goal's class, steps from the opening world of the board's job lead to the world that the stats count.
 abbrev pub StatsAreOfTheSetups : Type 0
 StatsAreOfTheSetups =
-    (setup : SetupState) (start : Position) (solved : Solved)
+    (setup : SetupModel) (start : BoardModel) (solved : Solved)
     → setup.workers ≡ 1
     → SameClass start setup.goal
     → HasStats setup start solved
-    → (owner : Position → ℕ) × (via : Move) × (made : List (Step × Option Refusal)) × (w : WorldState)
+    → (owner : BoardModel → ℕ) × (via : Move) × (made : List (Step × Option Refusal)) × (w : WorldState)
     × IsRun (opening (job_by owner setup start) via) made w × EndsIn w solved.ending × (solved.stats.expanded ≡ min (expansion_count w) (2 ^ 64 - 1))
 
 -- The stats of a board count no more expansions than the setup allows.
 abbrev pub StatsAreWithinTheLimit : Type 0
-StatsAreWithinTheLimit = (setup : SetupState) (start : Position) (solved : Solved) → HasStats setup start solved → solved.stats.expanded ≤ setup.limit
+StatsAreWithinTheLimit = (setup : SetupModel) (start : BoardModel) (solved : Solved) → HasStats setup start solved → solved.stats.expanded ≤ setup.limit

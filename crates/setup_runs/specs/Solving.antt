@@ -1,7 +1,7 @@
 -- How the boards of a setup are answered.
 use Rattle.std.specs.Prelude.{ℕ, List, ◌≡◌, ◌⊎◌, ◌↔◌, ◌≤◌, ◌-◌, ◌^◌, ⊤, min, Option, None, Some, Result, Ok, IfOk}
 use Rattle.memory.specs.declared.OutOfMemory.{OutOfMemory}
-use Rattle.board.specs.Positions.{Position}
+use Rattle.board.specs.Boards.{BoardModel}
 use Rattle.board.specs.Classes.{SameClass}
 use Rattle.outcomes.specs.declared.outcome.Ending.{Ending}
 use Rattle.outcomes.specs.declared.outcome.Ending.TheVariants.{Optimal, Unsolvable, Bounded}
@@ -16,12 +16,12 @@ use Rattle.world_ends.specs.Endings.{EndsIn}
 use Rattle.world_ends.specs.Readings.{EndsWithFigures}
 use Rattle.world_ends.specs.declared.figures.Figures.{Figures}
 use Rattle.hda_run.specs.Alone.{IsFoundAlone}
-use Rattle.hda_run.specs.Problems.{Problem, problem}
+use Rattle.hda_run.specs.Jobs.{JobModel, problem}
 use Rattle.hda_run.specs.WholeRuns.{EndsWholeRun, HasWholeRun}
 use Rattle.thread_runs.specs.Solved.{IsFoundByWorkers}
 use Rattle.lower_bound.specs.Bounds.{sum_of}
 use Rattle.lower_bound.specs.Tables.{parts_of}
-use Rattle.batch_runs.specs.Setups.{SetupState, owner_by, task_of}
+use Rattle.batch_runs.specs.Setups.{SetupModel, owner_by, task_of}
 use Rattle.batch_runs.specs.Batches.{Rules}
 use Rattle.batch_lines.specs.Words.{IsEntry}
 use Rattle.batch_runs.specs.declared.stats.Stats.{Stats}
@@ -29,11 +29,11 @@ use Rattle.batch_runs.specs.declared.stats.Solved.{Solved}
 use Rattle.certificate_runs.specs.Rules.{ProofRules}
 
 -- what is to be solved for a board within a limit: the setup says the rest
-abbrev pub problem_within : ℕ → SetupState → Position → Problem
+abbrev pub problem_within : ℕ → SetupModel → BoardModel → JobModel
 problem_within limit setup start = problem start setup.goal setup.rule setup.tables limit
 
 -- the same within the setup's limit
-abbrev pub problem_of : SetupState → Position → Problem
+abbrev pub problem_of : SetupModel → BoardModel → JobModel
 problem_of setup start = problem_within setup.limit setup start
 
 -- the ending is no bound
@@ -43,75 +43,75 @@ IsNoBound (Unsolvable why) = ⊤
 IsNoBound (Bounded bound best cause) = ⊥
 
 -- One worker finds the answer within this limit: the setup's, or a lower one where there are several workers and the answer is no bound.
-pub record IsFoundWithin {X : Type 0} (gives : WorldState → X → Type 0) (end : X → Ending) (setup : SetupState) (start : Position) (answer : X) (limit : ℕ) : Type 0 where
+pub record IsFoundWithin {X : Type 0} (gives : WorldState → X → Type 0) (end : X → Ending) (setup : SetupModel) (start : BoardModel) (answer : X) (limit : ℕ) : Type 0 where
   pub run : IsFoundAlone gives owner_by (problem_within limit setup start) setup.spread answer
   pub within : limit ≤ setup.limit
   pub whole : (limit ≡ setup.limit) ⊎ ((2 ≤ setup.workers) × IsNoBound (end answer))
 
 -- one worker finds the answer: several boards may be solved side by side, and an easy board is not shared
-abbrev pub IsFoundByOne : {X : Type 0} → (WorldState → X → Type 0) → (X → Ending) → SetupState → Position → X → Type 0
+abbrev pub IsFoundByOne : {X : Type 0} → (WorldState → X → Type 0) → (X → Ending) → SetupModel → BoardModel → X → Type 0
 IsFoundByOne gives end setup start answer = (limit : ℕ) × IsFoundWithin gives end setup start answer limit
 
 -- the setup's workers find the answer, or one of them does
-abbrev pub IsFound : {X : Type 0} → (WorldState → X → Type 0) → (X → Ending) → SetupState → Position → X → Type 0
+abbrev pub IsFound : {X : Type 0} → (WorldState → X → Type 0) → (X → Ending) → SetupModel → BoardModel → X → Type 0
 IsFound gives end setup start answer = IsFoundByWorkers gives owner_by (problem_of setup start) setup.spread setup.workers answer ⊎ IsFoundByOne gives end setup start answer
 
 -- What a search by the setup's workers may answer for a board: its parity just where the board isn't in the goal's class, and else what a run finds. Memory may be refused before the first step.
-pub record IsSearched {X : Type 0} (gives : WorldState → X → Type 0) (answers : Task → X → Type 0) (end : X → Ending) (parity : X) (setup : SetupState) (start : Position) (found : Result X OutOfMemory) : Type 0 where
+pub record IsSearched {X : Type 0} (gives : WorldState → X → Type 0) (answers : Task → X → Type 0) (end : X → Ending) (parity : X) (setup : SetupModel) (start : BoardModel) (found : Result X OutOfMemory) : Type 0 where
   pub at_parity : (found ≡ Ok parity) ↔ (¬ SameClass start setup.goal)
   pub run : SameClass start setup.goal → IfOk found (IsFound gives end setup start)
   pub answered : IfOk found (answers (task_of setup start))
   pub kept : IfOk found (λ answer. EndsWholeRun (end answer))
 
 -- the ending is that of a run by the setup's workers, which are guided by its tables and keep to its limit, or by one of them
-abbrev pub IsOfRun : SetupState → Position → Ending → Type 0
+abbrev pub IsOfRun : SetupModel → BoardModel → Ending → Type 0
 IsOfRun setup start ending = IsFound EndsIn (λ it. it) setup start ending × EndsWholeRun ending
 
 -- the outcome is that of such a run
-abbrev pub IsOfProvedRun : SetupState → Position → Outcome → Type 0
+abbrev pub IsOfProvedRun : SetupModel → BoardModel → Outcome → Type 0
 IsOfProvedRun setup start given = IsFound IsGiven without_rows setup start given × HasWholeRun given
 
 -- A board is answered by what answers its task. A board that isn't in the goal's class is answered by its parity; any other one by a run, which may want memory before the first step: when it does, no definition can tell.
-abbrev pub AnswersBoard : {X : Type 0} → (Task → X → Type 0) → (X → Type 0) → X → SetupState → Position → Option X → Type 0
+abbrev pub AnswersBoard : {X : Type 0} → (Task → X → Type 0) → (X → Type 0) → X → SetupModel → BoardModel → Option X → Type 0
 AnswersBoard answers is_of_run parity setup start None = SameClass start setup.goal
 AnswersBoard answers is_of_run parity setup start (Some answer) =
     answers (task_of setup start) answer
     × ((SameClass start setup.goal × is_of_run answer) ⊎ ((¬ SameClass start setup.goal) × (answer ≡ parity)))
 
 -- how a board may be answered by an ending
-abbrev pub MayAnswer : SetupState → Position → Option Ending → Type 0
+abbrev pub MayAnswer : SetupModel → BoardModel → Option Ending → Type 0
 MayAnswer setup start = AnswersBoard EndAnswers (IsOfRun setup start) (Unsolvable Parity) setup start
 
 -- and where the rows are asked for too, by an outcome
-abbrev pub MayCertify : SetupState → Position → Option Outcome → Type 0
+abbrev pub MayCertify : SetupModel → BoardModel → Option Outcome → Type 0
 MayCertify setup start = AnswersBoard Answers (IsOfProvedRun setup start) (outcome.Unsolvable Parity) setup start
 
 -- the boards of the setup's shape, what is asked of them, and how they may be answered
-abbrev pub rules_of : SetupState → Rules
+abbrev pub rules_of : SetupModel → Rules
 rules_of setup = record { grid = setup.goal.grid; task = task_of setup; allows = MayAnswer setup }
 
 -- and how where the rows are asked for
-abbrev pub certifying_rules_of : SetupState → ProofRules
+abbrev pub certifying_rules_of : SetupModel → ProofRules
 certifying_rules_of setup = record { grid = setup.goal.grid; task = task_of setup; allows = MayCertify setup }
 
 -- ---- figures
 
 -- The stats name the figures of a search, each cut to 64 bits, and the sum of the setup's tables for the start. When a search began and ended is said by no definition.
-pub record AreStatsOf (setup : SetupState) (start : Position) (figures : Figures) (stats : Stats) : Type 0 where
+pub record AreStatsOf (setup : SetupModel) (start : BoardModel) (figures : Figures) (stats : Stats) : Type 0 where
   pub expanded : stats.expanded ≡ min figures.expanded (2 ^ 64 - 1)
   pub known : stats.known ≡ min figures.known (2 ^ 64 - 1)
   pub start_sum : stats.start_sum ≡ sum_of (parts_of setup.tables) start
 
 -- the figures are those of a run by the setup's workers, or by one of them, which ends so; without a run they are 0
-pub record AreFiguresOfRun (setup : SetupState) (start : Position) (ending : Ending) (figures : Figures) : Type 0 where
+pub record AreFiguresOfRun (setup : SetupModel) (start : BoardModel) (ending : Ending) (figures : Figures) : Type 0 where
   pub run : SameClass start setup.goal → IsFound EndsWithFigures (λ it. it.ending) setup start (record { ending = ending; figures = figures })
   pub apart : (¬ SameClass start setup.goal) → figures ≡ record { expanded = 0; known = 0 }
 
 -- the board is answered with the stats of the run that gives its ending
-abbrev pub HasStats : SetupState → Position → Solved → Type 0
+abbrev pub HasStats : SetupModel → BoardModel → Solved → Type 0
 HasStats setup start solved = (figures : Figures) × AreFiguresOfRun setup start solved.ending figures × AreStatsOf setup start figures solved.stats
 
 -- the stats are those of a run for the board of a line with this id
 abbrev pub AreFiguresOfLine : List ℕ → Stats → Type 0
 AreFiguresOfLine id stats =
-    (setup : SetupState) × (line : List ℕ) × (b : Position) × (ending : Ending) × IsEntry setup.goal.grid line id b × HasStats setup b (record { ending = ending; stats = stats })
+    (setup : SetupModel) × (line : List ℕ) × (b : BoardModel) × (ending : Ending) × IsEntry setup.goal.grid line id b × HasStats setup b (record { ending = ending; stats = stats })

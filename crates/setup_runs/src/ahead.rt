@@ -2,7 +2,7 @@
 
 ghost use Rattle.std.specs.Prelude.{◌≡◌, ◌↔◌, ◌<◌, All, IfSome, IfNone, IfOk, IsTrue, Some, None};
 ghost use Rattle.batch_runs.specs.Batches.{AreAllowed};
-ghost use Rattle.batch_runs.specs.Setups.{SetupState};
+ghost use Rattle.batch_runs.specs.Setups.{SetupModel};
 ghost use Rattle.setup_runs.specs.Ahead.{HasSides, LacksMemory, AreEnded};
 ghost use Rattle.setup_runs.specs.Solving.{MayAnswer, HasStats, rules_of};
 
@@ -180,7 +180,7 @@ fn board_in(shape: Shape, kind: LineKind, bytes: &[u8]) -> Option<Board>
 
 // For each thread a list of what it ends, empty yet.
 fn new_lanes(alloc: Global, threads: usize) -> Result<Vec<Vec<Ended>>, OutOfMemory>
-    ensures { (setup : SetupState) → IfOk result (λ lanes. All (AreEnded setup) lanes.items) }
+    ensures { (setup : SetupModel) → IfOk result (λ lanes. All (AreEnded setup) lanes.items) }
 {
     let mut lanes = Vec::new(alloc);
     'threads: for _ in 0..threads {

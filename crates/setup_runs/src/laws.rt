@@ -1,8 +1,10 @@
 //! The laws of the definitions: each is the contract of a function that does nothing.
 
 ghost use Rattle.setup_runs.specs.Laws.{ParityWantsNoMemory, ParityIsAnswered};
-ghost use Rattle.setup_runs.specs.Laws.{BoundsAreNeverCut, LimitsAreTheSetups, LimitsAreNearlySpent};
-ghost use Rattle.setup_runs.specs.Laws.{ParityIsCertified, CertifiedEndsAreAnswered, StatsAreOfWorlds, StatsAreOfTheSetups};
+ghost use Rattle.setup_runs.specs.Laws.{BoundsAreNeverCut, LimitsAreTheSetups};
+ghost use Rattle.setup_runs.specs.Laws.{LimitsAreNearlySpent};
+ghost use Rattle.setup_runs.specs.Laws.{ParityIsCertified, CertifiedEndsAreAnswered};
+ghost use Rattle.setup_runs.specs.Laws.{StatsAreOfWorlds, StatsAreOfTheSetups};
 ghost use Rattle.setup_runs.specs.Laws.{StatsAreWithinTheLimit};
 
 /// A board of the other class is refused for no want of memory.

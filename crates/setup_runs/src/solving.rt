@@ -1,7 +1,7 @@
 //! The solver of a setup's boards.
 
 ghost use Rattle.std.specs.Prelude.{◌≡◌, ◌-◌, ◌^◌, ◌≤◌, min, IfOk, IfSome, IsFalse, IsTrue, Ok};
-ghost use Rattle.board.specs.Positions.{Position};
+ghost use Rattle.board.specs.Boards.{BoardModel};
 ghost use Rattle.batch_runs.specs.Setups.{owner_by};
 ghost use Rattle.batch_runs.specs.Batches.{MayGive};
 ghost use Rattle.setup_runs.specs.Solving.{problem_of, problem_within, rules_of};
@@ -169,7 +169,7 @@ fn answer_spread<A: Reading, R: Threads + Wait + Sync, S: Spread + Sync, G: Gate
     spread: &S,
     gate: &G,
 ) -> Result<A::Answer, OutOfMemory>
-    requires { (b : Position) → S.owner_of spread.now question.now.setup.now.workers b
+    requires { (b : BoardModel) → S.owner_of spread.now question.now.setup.now.workers b
         ≡ owner_by question.now.setup.now.spread question.now.setup.now.workers b }
     ensures { IsSearched A.gives A.answers A.end A.parity question.now.setup.now
         question.now.start.now result }

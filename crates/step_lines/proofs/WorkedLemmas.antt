@@ -14,24 +14,24 @@ use Rattle.world_model.specs.declared.steps.HaltCause.{HaltCause}
 use Rattle.world_model.specs.declared.steps.Step.{Step}
 use Rattle.world_model.specs.declared.steps.Step.TheVariants.{Expand, Settle, Send, Deliver, Draw, Announce, Grant, Rest, Halt}
 use Rattle.batch_lines.specs.Words.{id_of, tile_words}
-use Rattle.step_lines.specs.Steps.{SaysNumber, SaysCause, SayOne, SayTwo, SayHalt, SaysStep}
+use Rattle.step_lines.specs.Steps.{IsNumberWord, SaysCause, SayOne, SayTwo, SayHalt, SaysStep}
 use Rattle.step_lines.proofs.StepLemmas.{step_number}
 
 -- a word of digits says its value
-pub number_said : (word : List ℕ) (n : ℕ) → nat_lt 0 (length word) ≡ true → list_all is_ascii_digit word ≡ true → digits_value 10 word ≡ n → nat_lt (length word) 10 ≡ true → SaysNumber word n
+pub number_said : (word : List ℕ) (n : ℕ) → nat_lt 0 (length word) ≡ true → list_all is_ascii_digit word ≡ true → digits_value 10 word ≡ n → nat_lt (length word) 10 ≡ true → IsNumberWord word n
 number_said word n some all value few = (record { some = λ none. let e : nat_lt 0 (length word) ≡ false = ap (λ (w : List ℕ). nat_lt 0 (length w)) none in absurd (false≢true (sym e ∙ some)); digits = λ k d l. digit (get_or word k d) (AllPass-from_list_all is_ascii_digit word all k d l); value = value }, grind arith)
   where
     digit : (b : ℕ) → is_ascii_digit b ≡ true → IsAsciiDigit b
     digit b e = grind arith
 
 -- a word and a number that it says
-pub one_said : (words : List (List ℕ)) (verb number : List ℕ) (k : ℕ) → words ≡ verb ∷ number ∷ [] → SaysNumber number k → SayOne words verb k
+pub one_said : (words : List (List ℕ)) (verb number : List ℕ) (k : ℕ) → words ≡ verb ∷ number ∷ [] → IsNumberWord number k → SayOne words verb k
 one_said words verb number k are said = (number, are, said)
 
-pub two_said : (words : List (List ℕ)) (verb first second : List ℕ) (k j : ℕ) → words ≡ verb ∷ first ∷ second ∷ [] → SaysNumber first k → SaysNumber second j → SayTwo words verb k j
+pub two_said : (words : List (List ℕ)) (verb first second : List ℕ) (k j : ℕ) → words ≡ verb ∷ first ∷ second ∷ [] → IsNumberWord first k → IsNumberWord second j → SayTwo words verb k j
 two_said words verb first second k j are one two = (first, second, are, one, two)
 
-pub halt_said : (words : List (List ℕ)) (number word : List ℕ) (k : ℕ) (cause : HaltCause) → words ≡ codes "halt" ∷ number ∷ word ∷ [] → SaysNumber number k → SaysCause word cause → SayHalt words k cause
+pub halt_said : (words : List (List ℕ)) (number word : List ℕ) (k : ℕ) (cause : HaltCause) → words ≡ codes "halt" ∷ number ∷ word ∷ [] → IsNumberWord number k → SaysCause word cause → SayHalt words k cause
 halt_said words number word k cause are said for = (number, word, are, said, for)
 
 abbrev pub same : List ℕ → List ℕ → Bool
@@ -66,13 +66,13 @@ pub uncounted : (words : List (List ℕ)) → (length words ≢ words_for (id_of
 uncounted words other step h = other (step_count words step h)
 
 -- nor a second word that says no number
-pub unnumbered : (words : List (List ℕ)) → ((k : ℕ) → ¬ SaysNumber (id_of (tile_words words)) k) → (step : Step) → ¬ SaysStep words step
+pub unnumbered : (words : List (List ℕ)) → ((k : ℕ) → ¬ IsNumberWord (id_of (tile_words words)) k) → (step : Step) → ¬ SaysStep words step
 unnumbered words never step h = let said = step_number words step h in never said.0 said.1
 
-pub too_many : (word : List ℕ) → nat_lt 9 (length word) ≡ true → (k : ℕ) → ¬ SaysNumber word k
+pub too_many : (word : List ℕ) → nat_lt 9 (length word) ≡ true → (k : ℕ) → ¬ IsNumberWord word k
 too_many word long k h = let few = h.1 in grind arith
 
-pub no_digits : (word : List ℕ) → list_all is_ascii_digit word ≡ false → (k : ℕ) → ¬ SaysNumber word k
+pub no_digits : (word : List ℕ) → list_all is_ascii_digit word ≡ false → (k : ℕ) → ¬ IsNumberWord word k
 no_digits word other k h = false≢true (sym other ∙ list_all-from_AllPass is_ascii_digit word (λ i d l. tested (get_or word i d) (h.0.digits i d l)))
   where
     tested : (b : ℕ) → IsAsciiDigit b → is_ascii_digit b ≡ true

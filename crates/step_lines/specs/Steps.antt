@@ -5,11 +5,11 @@ use Rattle.world_model.specs.declared.steps.HaltCause.{HaltCause}
 use Rattle.world_model.specs.declared.steps.HaltCause.TheVariants.{Limit, Memory, Start}
 use Rattle.world_model.specs.declared.steps.Step.{Step}
 use Rattle.world_model.specs.declared.steps.Step.TheVariants.{Expand, Settle, Send, Deliver, Draw, Announce, Grant, Rest, Halt}
-use Rattle.batch_lines.specs.Words.{Spells}
+use Rattle.batch_lines.specs.Words.{SpellsNumber}
 
 -- a word of one to nine digits, with this value
-abbrev pub SaysNumber : List ℕ → ℕ → Type 0
-SaysNumber word n = Spells word n × (length word ≤ 9)
+abbrev pub IsNumberWord : List ℕ → ℕ → Type 0
+IsNumberWord word n = SpellsNumber word n × (length word ≤ 9)
 
 -- the word for the cause of a halt; a line can't say that memory was refused
 abbrev pub SaysCause : List ℕ → HaltCause → Type 0
@@ -20,15 +20,15 @@ SaysCause word Start = word ≡ codes "start"
 
 -- a verb, and the number of a worker
 abbrev pub SayOne : List (List ℕ) → List ℕ → ℕ → Type 0
-SayOne words verb i = (number : List ℕ) × (words ≡ verb ∷ number ∷ []) × SaysNumber number i
+SayOne words verb i = (number : List ℕ) × (words ≡ verb ∷ number ∷ []) × IsNumberWord number i
 
 -- a verb, and the numbers of two workers
 abbrev pub SayTwo : List (List ℕ) → List ℕ → ℕ → ℕ → Type 0
-SayTwo words verb i j = (first second : List ℕ) × (words ≡ verb ∷ first ∷ second ∷ []) × SaysNumber first i × SaysNumber second j
+SayTwo words verb i j = (first second : List ℕ) × (words ≡ verb ∷ first ∷ second ∷ []) × IsNumberWord first i × IsNumberWord second j
 
 -- the verb of a halt, the number of a worker, and the cause
 abbrev pub SayHalt : List (List ℕ) → ℕ → HaltCause → Type 0
-SayHalt words i cause = (number word : List ℕ) × (words ≡ codes "halt" ∷ number ∷ word ∷ []) × SaysNumber number i × SaysCause word cause
+SayHalt words i cause = (number word : List ℕ) × (words ≡ codes "halt" ∷ number ∷ word ∷ []) × IsNumberWord number i × SaysCause word cause
 
 -- the words say the step
 abbrev pub SaysStep : List (List ℕ) → Step → Type 0
@@ -58,8 +58,8 @@ IsAlone verb i (Halt k cause) = ⊥
 abbrev pub IsPaired : List ℕ → ℕ → List ℕ → Step → Type 0
 IsPaired verb i word (Expand k) = ⊥
 IsPaired verb i word (Settle k) = ⊥
-IsPaired verb i word (Send k j) = (verb ≡ codes "send") × (k ≡ i) × SaysNumber word j
-IsPaired verb i word (Deliver k j) = (verb ≡ codes "deliver") × (k ≡ i) × SaysNumber word j
+IsPaired verb i word (Send k j) = (verb ≡ codes "send") × (k ≡ i) × IsNumberWord word j
+IsPaired verb i word (Deliver k j) = (verb ≡ codes "deliver") × (k ≡ i) × IsNumberWord word j
 IsPaired verb i word (Draw k) = ⊥
 IsPaired verb i word (Announce k) = ⊥
 IsPaired verb i word (Grant k) = ⊥

@@ -8,8 +8,8 @@ use Rattle.batch_lines.specs.Words.{words_of}
 use Rattle.step_lines.specs.Steps.{SaysStep}
 
 -- the line says this step
-abbrev pub Says : List ℕ → Step → Type 0
-Says line step = SaysStep (words_of line) step
+abbrev pub SaysStepLine : List ℕ → Step → Type 0
+SaysStepLine line step = SaysStep (words_of line) step
 
 -- the line says no step
 abbrev pub SaysNothing : List ℕ → Type 0
@@ -18,25 +18,25 @@ SaysNothing line = (step : Step) → ¬ SaysStep (words_of line) step
 -- each kind of step is said
 abbrev pub KindsAreSaid : Type 0
 KindsAreSaid =
-    Says (codes "expand 0") (Expand 0)
-    × Says (codes "settle 1") (Settle 1)
-    × Says (codes "send 0 1") (Send 0 1)
-    × Says (codes "deliver 0 1") (Deliver 0 1)
-    × Says (codes "draw 2") (Draw 2)
-    × Says (codes "announce 3") (Announce 3)
-    × Says (codes "grant 15") (Grant 15)
-    × Says (codes "rest 16") (Rest 16)
-    × Says (codes "halt 0 limit") (Halt 0 Limit)
-    × Says (codes "halt 0 memory") (Halt 0 (Memory Stated))
-    × Says (codes "halt 0 start") (Halt 0 Start)
+    SaysStepLine (codes "expand 0") (Expand 0)
+    × SaysStepLine (codes "settle 1") (Settle 1)
+    × SaysStepLine (codes "send 0 1") (Send 0 1)
+    × SaysStepLine (codes "deliver 0 1") (Deliver 0 1)
+    × SaysStepLine (codes "draw 2") (Draw 2)
+    × SaysStepLine (codes "announce 3") (Announce 3)
+    × SaysStepLine (codes "grant 15") (Grant 15)
+    × SaysStepLine (codes "rest 16") (Rest 16)
+    × SaysStepLine (codes "halt 0 limit") (Halt 0 Limit)
+    × SaysStepLine (codes "halt 0 memory") (Halt 0 (Memory Stated))
+    × SaysStepLine (codes "halt 0 start") (Halt 0 Start)
 
 -- blanks are spaces and tabs (9), as many as there are; a number has up to nine digits, with zeros before it or without
 abbrev pub SpellingsAreSaid : Type 0
 SpellingsAreSaid =
-    Says (codes "  send  0   1 ") (Send 0 1)
-    × Says (9 ∷ codes "send" ++ 9 ∷ codes "0" ++ 9 ∷ 32 ∷ codes "1") (Send 0 1)
-    × Says (codes "rest 000000007") (Rest 7)
-    × Says (codes "rest 999999999") (Rest 999999999)
+    SaysStepLine (codes "  send  0   1 ") (Send 0 1)
+    × SaysStepLine (9 ∷ codes "send" ++ 9 ∷ codes "0" ++ 9 ∷ 32 ∷ codes "1") (Send 0 1)
+    × SaysStepLine (codes "rest 000000007") (Rest 7)
+    × SaysStepLine (codes "rest 999999999") (Rest 999999999)
 
 -- ten digits, a sign, upper case, another verb, a word too few or too many, another cause
 abbrev pub OthersSayNothing : Type 0

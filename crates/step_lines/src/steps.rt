@@ -2,7 +2,7 @@
 
 ghost use Rattle.std.specs.Prelude.{◌≡◌, ◌↔◌, ℕ, IsUtf8, Some};
 ghost use Rattle.batch_lines.specs.Words.{words_of};
-ghost use Rattle.step_lines.specs.Steps.{SaysStep, SaysNumber, SaysCause, IsAlone, IsPaired};
+ghost use Rattle.step_lines.specs.Steps.{SaysStep, IsNumberWord, SaysCause, IsAlone, IsPaired};
 
 use batch_lines::cut_word;
 use outcomes::Want;
@@ -91,7 +91,7 @@ const DIGITS: usize = 9;
 
 // The number that a word of one to nine digits says.
 fn number_of(word: &[u8]) -> Option<usize>
-    ensures { (n : ℕ) → (result ≡ Some n) ↔ SaysNumber word.now n }
+    ensures { (n : ℕ) → (result ≡ Some n) ↔ IsNumberWord word.now n }
 {
     if word.is_empty() {
         return None;

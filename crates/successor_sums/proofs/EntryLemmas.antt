@@ -8,10 +8,10 @@ use Rattle.std.proofs.lemmas.Bool.{cases_Bool, cond-true, cond-false}
 use mir.Val.{bool_byte}
 use Rattle.board.specs.declared.moves.Move.{Move}
 use Rattle.board.specs.declared.moves.Move.TheVariants.{U, L, R, D}
-use Rattle.board.specs.Grids.{Grid}
-use Rattle.board.specs.Positions.{Position, blank_of}
+use Rattle.board.specs.Shapes.{ShapeModel}
+use Rattle.board.specs.Boards.{BoardModel, blank_of}
 use Rattle.board.specs.Neighbours.{neighbour}
-use Rattle.successor_sums.specs.ByMoves.{FourOf, IsBehind, OfFour, before, entries_of, four_by, of_move, IsListed, first_of, four_from, four_in, with_move}
+use Rattle.successor_sums.specs.ByMoves.{ByMovesModel, IsBehind, OfFour, before, entries_of, four_by, of_move, IsListed, first_of, four_from, four_in, with_move}
 use Rattle.successor_sums.specs.declared.by_moves.ByMoves.TheInside.{Inside}
 use Rattle.successor_sums.specs.Unpacked.{but, is_left_out}
 
@@ -25,7 +25,7 @@ before_all : {A : Type 0} (P : Move × A → Type 0) (m : Move) (o : Option A) (
 before_all P m None rest all = (tt, all)
 before_all P m (Some x) rest all = (all.0, all.1)
 
-pub all_four : {A : Type 0} (P : Move × A → Type 0) (four : FourOf A) → IfSome four.up (λ x. P (U, x)) → IfSome four.left (λ x. P (L, x)) → IfSome four.right (λ x. P (R, x)) → IfSome four.down (λ x. P (D, x)) → AllByRecursion P (entries_of four)
+pub all_four : {A : Type 0} (P : Move × A → Type 0) (four : ByMovesModel A) → IfSome four.up (λ x. P (U, x)) → IfSome four.left (λ x. P (L, x)) → IfSome four.right (λ x. P (R, x)) → IfSome four.down (λ x. P (D, x)) → AllByRecursion P (entries_of four)
 all_four P four up left right down =
     all_before P U four.up (before L four.left (before R four.right (before D four.down []))) up
     (all_before P L four.left (before R four.right (before D four.down [])) left
@@ -37,7 +37,7 @@ itself None = tt
 itself (Some x) = refl
 
 -- each is what stands for its move
-pub stands_at : {A : Type 0} (four : FourOf A) (i : ℕ) (d : Move × A) → i < length (entries_of four) → of_move four (get_or (entries_of four) i d).0 ≡ Some (get_or (entries_of four) i d).1
+pub stands_at : {A : Type 0} (four : ByMovesModel A) (i : ℕ) (d : Move × A) → i < length (entries_of four) → of_move four (get_or (entries_of four) i d).0 ≡ Some (get_or (entries_of four) i d).1
 stands_at {A = A} four i d low =
     All-from_recursion (λ (e : Move × A). of_move four e.0 ≡ Some e.1) (entries_of four)
     (all_four (λ (e : Move × A). of_move four e.0 ≡ Some e.1) four (itself four.up) (itself four.left) (itself four.right) (itself four.down)) i d low
@@ -58,7 +58,7 @@ there_first m None x rest is = absurd (none is)
     none e = cc
 there_first {A = A} m (Some y) x rest is = (0, omega arith, λ d. ap (λ (z : A). (m, z)) (let same : y ≡ x = cc in same))
 
-pub found : {A : Type 0} (four : FourOf A) (m : Move) (x : A) → of_move four m ≡ Some x → IsAmong (m, x) (entries_of four)
+pub found : {A : Type 0} (four : ByMovesModel A) (m : Move) (x : A) → of_move four m ≡ Some x → IsAmong (m, x) (entries_of four)
 found four U x is = there_first U four.up x (before L four.left (before R four.right (before D four.down []))) is
 found four L x is = behind_others (L, x) U four.up (before L four.left (before R four.right (before D four.down []))) (there_first L four.left x (before R four.right (before D four.down [])) is)
 found four R x is = behind_others (R, x) U four.up (before L four.left (before R four.right (before D four.down []))) (behind_others (R, x) L four.left (before R four.right (before D four.down [])) (there_first R four.right x (before D four.down []) is))
@@ -90,7 +90,7 @@ sorted_before : {A : Type 0} (m : Move) (o : Option A) (rest : List (Move × A))
 sorted_before m None rest all is = is
 sorted_before m (Some x) rest all is = (all, is)
 
-sorted : {A : Type 0} (four : FourOf A) → IsSorted (entries_of four)
+sorted : {A : Type 0} (four : ByMovesModel A) → IsSorted (entries_of four)
 sorted four =
     let down = before D four.down [] in
     let right = before R four.right down in
@@ -110,7 +110,7 @@ none_of : {A : Type 0} (o : Option A) (m k : Move) → rank m ≤ rank k → IfS
 none_of None m k low is = refl
 none_of (Some x) m k low is = absurd (omega (arith, low, is))
 
-behind_ranks : {A : Type 0} (four : FourOf A) (m : Move) → AllByRecursion (λ (e : Move × A). rank e.0 < rank m) (entries_of four) → IsBehind four m
+behind_ranks : {A : Type 0} (four : ByMovesModel A) (m : Move) → AllByRecursion (λ (e : Move × A). rank e.0 < rank m) (entries_of four) → IsBehind four m
 behind_ranks {A = A} four m all = by m up.0 left.0 right.0 down.0
   where
     up : IfSome four.up (λ x. rank U < rank m) × AllByRecursion (λ (e : Move × A). rank e.0 < rank m) (before L four.left (before R four.right (before D four.down [])))
@@ -132,7 +132,7 @@ behind_ranks {A = A} four m all = by m up.0 left.0 right.0 down.0
     by D a b c d = none_of four.down D D (omega arith) d
 
 -- where the moves of one are the first of another's, the next move of that one comes behind them
-pub behind_those : {A B : Type 0} (a : FourOf A) (b : FourOf B) (i : ℕ) (e : Move × A) → i < length (entries_of a) → length (entries_of b) ≡ i → ((j : ℕ) (d : Move × B) → j < i → (get_or (entries_of b) j d).0 ≡ (get_or (entries_of a) j e).0) → IsBehind b (get_or (entries_of a) i e).0
+pub behind_those : {A B : Type 0} (a : ByMovesModel A) (b : ByMovesModel B) (i : ℕ) (e : Move × A) → i < length (entries_of a) → length (entries_of b) ≡ i → ((j : ℕ) (d : Move × B) → j < i → (get_or (entries_of b) j d).0 ≡ (get_or (entries_of a) j e).0) → IsBehind b (get_or (entries_of a) i e).0
 behind_those {B = B} a b i e low all same =
     let m = (get_or (entries_of a) i e).0 in
     behind_ranks b m
@@ -140,7 +140,7 @@ behind_those {B = B} a b i e low all same =
     (λ j d within. (let lt : j < i = omega (arith, within, all) in subst (λ (k : Move). rank k < rank m) (sym (same j d lt)) (lower (entries_of a) j i e (sorted a) lt low))))
 
 -- what holds of each entry holds of what stands for each move
-pub of_entries : {A : Type 0} (P : A → Type 0) (four : FourOf A) → ((j : ℕ) (d : Move × A) → j < length (entries_of four) → P (get_or (entries_of four) j d).1) → OfFour P four
+pub of_entries : {A : Type 0} (P : A → Type 0) (four : ByMovesModel A) → ((j : ℕ) (d : Move × A) → j < length (entries_of four) → P (get_or (entries_of four) j d).1) → OfFour P four
 of_entries {A = A} P four all = (one U four.up refl, one L four.left refl, one R four.right refl, one D four.down refl)
   where
     one : (m : Move) (o : Option A) → of_move four m ≡ o → IfSome o P
@@ -165,7 +165,7 @@ at_end (y ∷ xs) x (suc j) d is = at_end xs x j d (omega (arith, is))
 -- ---- one made of another
 
 -- what has the same moves as another has nothing where that one has nothing
-pub absent_too : {A B : Type 0} (a : FourOf A) (b : FourOf B) → length (entries_of b) ≡ length (entries_of a) → ((j : ℕ) (d : Move × B) (e : Move × A) → j < length (entries_of a) → (get_or (entries_of b) j d).0 ≡ (get_or (entries_of a) j e).0) → (m : Move) → of_move b m ≡ None → of_move a m ≡ None
+pub absent_too : {A B : Type 0} (a : ByMovesModel A) (b : ByMovesModel B) → length (entries_of b) ≡ length (entries_of a) → ((j : ℕ) (d : Move × B) (e : Move × A) → j < length (entries_of a) → (get_or (entries_of b) j d).0 ≡ (get_or (entries_of a) j e).0) → (m : Move) → of_move b m ≡ None → of_move a m ≡ None
 absent_too {A = A} {B = B} a b all same m is = by (of_move a m) refl
   where
     not_some : {x : B} → ◌≡◌ {A = Option B} None (Some x) → ⊥
@@ -214,7 +214,7 @@ not_counted {A = A} (suc count) (k ∷ moves) (y ∷ items) m x = ap (λ (es : L
 -- ---- what is put behind others
 
 -- it is the last entry
-abbrev IsPut : {A : Type 0} → FourOf A → Move → A → Type 0
+abbrev IsPut : {A : Type 0} → ByMovesModel A → Move → A → Type 0
 IsPut four m x = (four_from (entries_of four ++ (m, x) ∷ []) ≡ with_move four m (Some x)) × (entries_of (with_move four m (Some x)) ≡ entries_of four ++ (m, x) ∷ []) × (with_move four m None ≡ four) × (length (entries_of four) ≤ 3)
 
 put_by : {A : Type 0} (a b c d : Option A) (m : Move) (x : A) → IsBehind (record { up = a; left = b; right = c; down = d }) m → IsPut (record { up = a; left = b; right = c; down = d }) m x
@@ -234,11 +234,11 @@ put_by (Some a) None (Some c) d D x is = rw is (refl, refl, refl, omega arith)
 put_by (Some a) (Some b) None d D x is = rw is (refl, refl, refl, omega arith)
 put_by (Some a) (Some b) (Some c) d D x is = rw is (refl, refl, refl, omega arith)
 
-put_is : {A : Type 0} (four : FourOf A) (m : Move) (x : A) → IsBehind four m → IsPut four m x
+put_is : {A : Type 0} (four : ByMovesModel A) (m : Move) (x : A) → IsBehind four m → IsPut four m x
 put_is four m x is = put_by four.up four.left four.right four.down m x is
 
 -- and so it is in the list of entries
-pub put_entry : {A : Type 0} (four : FourOf A) (m : Move) (x : A) → IsBehind four m → entries_of (with_move four m (Some x)) ≡ entries_of four ++ (m, x) ∷ []
+pub put_entry : {A : Type 0} (four : ByMovesModel A) (m : Move) (x : A) → IsBehind four m → entries_of (with_move four m (Some x)) ≡ entries_of four ++ (m, x) ∷ []
 put_entry four m x is = (put_is four m x is).1
 
 -- what lies in memory then
@@ -283,18 +283,18 @@ of_four_by made R = refl
 of_four_by made D = refl
 
 -- each entry of what moves make that aren't left out is what its move makes
-pub kept_by : {A : Type 0} (left_out : Option Move) (made : Move → Option A) (four : FourOf A) → four ≡ four_by (but left_out made) → (i : ℕ) (e : Move × A) → i < length (entries_of four) → (is_left_out left_out (get_or (entries_of four) i e).0 ≡ false) × (made (get_or (entries_of four) i e).0 ≡ Some (get_or (entries_of four) i e).1)
+pub kept_by : {A : Type 0} (left_out : Option Move) (made : Move → Option A) (four : ByMovesModel A) → four ≡ four_by (but left_out made) → (i : ℕ) (e : Move × A) → i < length (entries_of four) → (is_left_out left_out (get_or (entries_of four) i e).0 ≡ false) × (made (get_or (entries_of four) i e).0 ≡ Some (get_or (entries_of four) i e).1)
 kept_by {A = A} left_out made four is i e low =
     let m = (get_or (entries_of four) i e).0 in
-    but_some left_out made m (get_or (entries_of four) i e).1 (sym (of_four_by (but left_out made) m) ∙ ap (λ (f : FourOf A). of_move f m) (sym is) ∙ stands_at four i e low)
+    but_some left_out made m (get_or (entries_of four) i e).1 (sym (of_four_by (but left_out made) m) ∙ ap (λ (f : ByMovesModel A). of_move f m) (sym is) ∙ stands_at four i e low)
 
 -- where the blank goes from the board by a move that isn't left out
-abbrev pub exits_of : Option Move → Position → FourOf ℕ
+abbrev pub exits_of : Option Move → BoardModel → ByMovesModel ℕ
 exits_of left_out b = four_by (but left_out (λ m. neighbour b.grid m (blank_of b)))
 
 -- each of these is a neighbour of the blank
-pub led_by : (left_out : Option Move) (b : Position) (exits : FourOf ℕ) → exits ≡ exits_of left_out b → (i : ℕ) (e : Move × ℕ) → i < length (entries_of exits) → (is_left_out left_out (get_or (entries_of exits) i e).0 ≡ false) × (neighbour b.grid (get_or (entries_of exits) i e).0 (blank_of b) ≡ Some (get_or (entries_of exits) i e).1)
+pub led_by : (left_out : Option Move) (b : BoardModel) (exits : ByMovesModel ℕ) → exits ≡ exits_of left_out b → (i : ℕ) (e : Move × ℕ) → i < length (entries_of exits) → (is_left_out left_out (get_or (entries_of exits) i e).0 ≡ false) × (neighbour b.grid (get_or (entries_of exits) i e).0 (blank_of b) ≡ Some (get_or (entries_of exits) i e).1)
 led_by left_out b exits is i e low = kept_by left_out (λ m. neighbour b.grid m (blank_of b)) exits is i e low
 
-pub exits_here : (left_out : Option Move) (b : Position) (shape : Grid) (blank : ℕ) (exits : FourOf ℕ) → exits ≡ four_by (but left_out (λ m. neighbour shape m blank)) → shape ≡ b.grid → blank ≡ blank_of b → exits ≡ exits_of left_out b
+pub exits_here : (left_out : Option Move) (b : BoardModel) (shape : ShapeModel) (blank : ℕ) (exits : ByMovesModel ℕ) → exits ≡ four_by (but left_out (λ m. neighbour shape m blank)) → shape ≡ b.grid → blank ≡ blank_of b → exits ≡ exits_of left_out b
 exits_here left_out b shape blank exits is same at = is ∙ (λ i. four_by (but left_out (λ m. neighbour (same i) m (at i))))

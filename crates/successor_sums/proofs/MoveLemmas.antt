@@ -7,12 +7,12 @@ use Rattle.std.proofs.lemmas.List.{length-set, get_or-set_other}
 use Rattle.std.proofs.lemmas.List.Edits.{swap_is}
 use Rattle.std.specs.Int.Digits.{AllBelowBase}
 use Rattle.std.proofs.lemmas.List.Elements.{recursion_from_All}
-use Rattle.board.specs.Grids.{Grid, cell_count}
+use Rattle.board.specs.Shapes.{ShapeModel, cell_count}
 use Rattle.board.specs.Digits.{digits_of}
-use Rattle.board.specs.Positions.{Position, IsBoard, blank_of}
+use Rattle.board.specs.Boards.{BoardModel, IsBoard, blank_of}
 use Rattle.board.specs.Keys.{packed_number, key_of, HasKey}
 use Rattle.board.specs.Moves.{blank_exchange, successor, successor_at}
-use Rattle.board.specs.CostRules.{CostRule, weight_of}
+use Rattle.board.specs.Weights.{WeightsModel, weight_of}
 use Rattle.board.proofs.StepLemmas.{blank_stands, tile_above, tile_below}
 use Rattle.board.proofs.KeyLemmas.{digits_of-key, packed_number-lt, key_of-lt, tiles_small}
 use Rattle.board.specs.declared.moves.Move.{Move}
@@ -56,7 +56,7 @@ digit_there (x ∷ xs) (suc i) k e low =
     ap (λ (n : ℕ). n / 32 ^ k % 32) shifted ∙ ap (λ (n : ℕ). n % 32) front ∙ mul-add-mod_self_right (x * 32 ^ i) 32 (packed_number xs / 32 ^ k) ∙ rest
 
 -- the board of a key is its digits
-pub key_read : (grid : Grid) (key : ℕ) (b : Position) → HasKey grid key b → record { grid = grid; tiles = digits_of (cell_count grid) key } ≡ b
+pub key_read : (grid : ShapeModel) (key : ℕ) (b : BoardModel) → HasKey grid key b → record { grid = grid; tiles = digits_of (cell_count grid) key } ≡ b
 key_read grid key b has =
     let tiles : digits_of (cell_count grid) key ≡ b.tiles = (λ i. digits_of (cell_count (sym has.sides i)) (sym has.packed i)) ∙ digits_of-key b has.board in
     λ i. record { grid = sym has.sides i; tiles = tiles i }
@@ -75,7 +75,7 @@ set_packed (x ∷ xs) (suc i) k v e =
     omega arith
 
 -- the digit of the tile that is moved goes to where the blank was
-pub moved_key : (b : Position) (to : ℕ) → IsBoard b → to < cell_count b.grid → to ≢ blank_of b
+pub moved_key : (b : BoardModel) (to : ℕ) → IsBoard b → to < cell_count b.grid → to ≢ blank_of b
     → (get_or b.tiles to 0 * 32 ^ (cell_count b.grid - 1 - to) ≤ key_of b)
     × (key_of b - get_or b.tiles to 0 * 32 ^ (cell_count b.grid - 1 - to) + get_or b.tiles to 0 * 32 ^ (cell_count b.grid - 1 - blank_of b) ≡ key_of (blank_exchange b to))
 moved_key b to board to_below other =
@@ -97,10 +97,10 @@ moved_key b to board to_below other =
 -- ---- what lies in memory
 
 -- what lies in memory where a board has the key, and the cells are its
-pub unpacked_as : (inside : Inside) (b : Position) → HasKey inside.shape inside.key b → AreCellsOf b inside.cells → IsUnpacked inside
+pub unpacked_as : (inside : Inside) (b : BoardModel) → HasKey inside.shape inside.key b → AreCellsOf b inside.cells → IsUnpacked inside
 unpacked_as inside b has of =
     let same = key_read inside.shape inside.key b has in
-    record { board = subst IsBoard (sym same) has.board; key = ap key_of same ∙ has.packed; cells = subst (λ (p : Position). AreCellsOf p inside.cells) (sym same) of }
+    record { board = subst IsBoard (sym same) has.board; key = ap key_of same ∙ has.packed; cells = subst (λ (p : BoardModel). AreCellsOf p inside.cells) (sym same) of }
 
 -- the blank's cell
 pub blank_is : (inside : Inside) → IsUnpacked inside → slice_index inside.cells 0 ≡ blank_of (board_in inside)
@@ -110,7 +110,7 @@ pub blank_below : (inside : Inside) → IsUnpacked inside → slice_index inside
 blank_below inside unpacked = subst (λ (k : ℕ). k < cell_count (board_in inside).grid) (sym (blank_is inside unpacked)) (blank_stands (board_in inside) unpacked.board).0
 
 -- what holds where the blank goes from its cell to another, on which a tile stands
-pub record IsLedTo (inside : Inside) (b : Position) (count from to tile : ℕ) : Type 0 where
+pub record IsLedTo (inside : Inside) (b : BoardModel) (count from to tile : ℕ) : Type 0 where
   pub tile_is : slice_index b.tiles to ≡ tile
   pub tile_some : 0 < tile
   pub tile_low : tile < cell_count b.grid
@@ -123,7 +123,7 @@ pub record IsLedTo (inside : Inside) (b : Position) (count from to tile : ℕ) :
   pub cells : AreCellsOf (blank_exchange b to) (exchanged inside.cells tile)
 
 module _ (inside : Inside) (m : Move) (count from to : ℕ) (unpacked : IsUnpacked inside) (counted : count ≡ cell_count inside.shape) (at : from ≡ blank_of (board_in inside)) (lies : LiesTowards inside.shape m from to) where
-  abbrev b : Position
+  abbrev b : BoardModel
   b = (board_in inside)
 
   below : to < cell_count b.grid
@@ -169,12 +169,12 @@ module _ (inside : Inside) (m : Move) (count from to : ℕ) (unpacked : IsUnpack
       subst (λ (t : ℕ). IsLedTo inside b count from to t) (sym (read ∙ (λ i. sym unpacked.key i / 32 ^ (counted i - 1 - to) % 32) ∙ digit)) led_there
 
 -- so it is for the board that lies in memory
-pub led_to : (inside : Inside) (b : Position) (m : Move) (count from to tile : ℕ) → IsUnpacked inside → board_in inside ≡ b → count ≡ cell_count inside.shape → from ≡ blank_of b → LiesTowards inside.shape m from to → tile ≡ inside.key / 32 ^ (count - 1 - to) % 32 → IsLedTo inside b count from to tile
-led_to inside b m count from to tile unpacked is counted at lies read = subst (λ (p : Position). IsLedTo inside p count from to tile) is (led_here inside m count from to unpacked counted (at ∙ sym (ap blank_of is)) lies tile read)
+pub led_to : (inside : Inside) (b : BoardModel) (m : Move) (count from to tile : ℕ) → IsUnpacked inside → board_in inside ≡ b → count ≡ cell_count inside.shape → from ≡ blank_of b → LiesTowards inside.shape m from to → tile ≡ inside.key / 32 ^ (count - 1 - to) % 32 → IsLedTo inside b count from to tile
+led_to inside b m count from to tile unpacked is counted at lies read = subst (λ (p : BoardModel). IsLedTo inside p count from to tile) is (led_here inside m count from to unpacked counted (at ∙ sym (ap blank_of is)) lies tile read)
 
 -- ---- what is told of a successor
 
-module _ (rule : CostRule) (parts : List Part) (b : Position) (m : Move) (inside : Inside) (count from : ℕ) (s : Successor) (led : IsLedTo inside b count from s.cell s.tile) where
+module _ (rule : WeightsModel) (parts : List Part) (b : BoardModel) (m : Move) (inside : Inside) (count from : ℕ) (s : Successor) (led : IsLedTo inside b count from s.cell s.tile) where
   -- where a move leads there, this is what is told of it
   pub some_told : neighbour b.grid m (blank_of b) ≡ Some s.cell → s.key ≡ key_of (blank_exchange b s.cell) → s.cost ≡ weight_of rule s.tile → s.sum ≡ sum_of parts (blank_exchange b s.cell) → Some s ≡ option_map (told_of parts b) (successor rule b m)
   some_told found key cost sum =

@@ -5,36 +5,36 @@ use Rattle.board.specs.declared.moves.Move.TheVariants.{U, L, R, D}
 use Rattle.successor_sums.specs.declared.by_moves.ByMoves.TheInside.{Inside}
 
 -- For each move something, or nothing.
-pub record FourOf (A : Type 0) : Type 0 where
+pub record ByMovesModel (A : Type 0) : Type 0 where
   pub up : Option A
   pub left : Option A
   pub right : Option A
   pub down : Option A
 
 -- what stands for a move
-abbrev pub of_move : {A : Type 0} → FourOf A → Move → Option A
+abbrev pub of_move : {A : Type 0} → ByMovesModel A → Move → Option A
 of_move four U = four.up
 of_move four L = four.left
 of_move four R = four.right
 of_move four D = four.down
 
 -- for no move anything
-abbrev pub nothing : {A : Type 0} → FourOf A
+abbrev pub nothing : {A : Type 0} → ByMovesModel A
 nothing = record { up = None; left = None; right = None; down = None }
 
 -- the same with this for a move
-abbrev pub with_move : {A : Type 0} → FourOf A → Move → Option A → FourOf A
+abbrev pub with_move : {A : Type 0} → ByMovesModel A → Move → Option A → ByMovesModel A
 with_move four U item = record { up = item; left = four.left; right = four.right; down = four.down }
 with_move four L item = record { up = four.up; left = item; right = four.right; down = four.down }
 with_move four R item = record { up = four.up; left = four.left; right = item; down = four.down }
 with_move four D item = record { up = four.up; left = four.left; right = four.right; down = item }
 
 -- what a function makes for each move
-abbrev pub four_by : {A : Type 0} → (Move → Option A) → FourOf A
+abbrev pub four_by : {A : Type 0} → (Move → Option A) → ByMovesModel A
 four_by made = record { up = made U; left = made L; right = made R; down = made D }
 
 -- for the move, and those behind it, there is nothing
-abbrev pub IsBehind : {A : Type 0} → FourOf A → Move → Type 0
+abbrev pub IsBehind : {A : Type 0} → ByMovesModel A → Move → Type 0
 IsBehind four U = (four.up ≡ None) × (four.left ≡ None) × (four.right ≡ None) × (four.down ≡ None)
 IsBehind four L = (four.left ≡ None) × (four.right ≡ None) × (four.down ≡ None)
 IsBehind four R = (four.right ≡ None) × (four.down ≡ None)
@@ -46,11 +46,11 @@ before m None others = others
 before m (Some item) others = (m, item) ∷ others
 
 -- the moves for which there is something, in their order, each with that
-abbrev pub entries_of : {A : Type 0} → FourOf A → List (Move × A)
+abbrev pub entries_of : {A : Type 0} → ByMovesModel A → List (Move × A)
 entries_of four = before U four.up (before L four.left (before R four.right (before D four.down [])))
 
 -- what is there has this, for whichever move
-abbrev pub OfFour : {A : Type 0} → (A → Type 0) → FourOf A → Type 0
+abbrev pub OfFour : {A : Type 0} → (A → Type 0) → ByMovesModel A → Type 0
 OfFour P four = IfSome four.up P × IfSome four.left P × IfSome four.right P × IfSome four.down P
 
 -- ---- what lies in memory
@@ -63,12 +63,12 @@ first_of (suc count) (m ∷ moves) [] = []
 first_of (suc count) (m ∷ moves) (item ∷ items) = (m, item) ∷ first_of count moves items
 
 -- what stands for each move by a list of such
-abbrev pub four_from : {A : Type 0} → List (Move × A) → FourOf A
+abbrev pub four_from : {A : Type 0} → List (Move × A) → ByMovesModel A
 four_from [] = nothing
 four_from (entry ∷ entries) = with_move (four_from entries) entry.0 (Some entry.1)
 
 -- what the memory holds
-abbrev pub four_in : {A : Type 0} → Inside A → FourOf A
+abbrev pub four_in : {A : Type 0} → Inside A → ByMovesModel A
 four_in inside = four_from (first_of inside.count inside.moves inside.items)
 
 -- the moves are in their order, and each is there once

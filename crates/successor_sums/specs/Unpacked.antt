@@ -2,9 +2,9 @@
 use Rattle.std.specs.Prelude.{Bool, false, if◌then◌else◌, None, ℕ, ◌≡◌, ◌≤◌, ◌<◌, List, map, slice_index, Option, Some, option_map}
 use Rattle.board.specs.declared.moves.Move.{Move}
 use Rattle.board.specs.Equality.{move_eq}
-use Rattle.board.specs.Grids.{Grid, cell_count}
-use Rattle.board.specs.Positions.{Position, IsBoard, blank_of}
-use Rattle.board.specs.CostRules.{CostRule}
+use Rattle.board.specs.Shapes.{ShapeModel, cell_count}
+use Rattle.board.specs.Boards.{BoardModel, IsBoard, blank_of}
+use Rattle.board.specs.Weights.{WeightsModel}
 use Rattle.board.specs.Keys.{key_of, HasKey}
 use Rattle.board.specs.Digits.{digits_of}
 use Rattle.board.specs.Moves.{all_moves, successor}
@@ -16,11 +16,11 @@ use Rattle.successor_sums.specs.declared.unpacked.UnpackedBoard.TheInside.{Insid
 
 -- what is told of a successor of a board: its key, the tile that is moved and the cell that it leaves, which is the
 -- blank's then, the cost of the move, and its sum
-abbrev pub told_of : List Part → Position → Position × ℕ → Successor
+abbrev pub told_of : List Part → BoardModel → BoardModel × ℕ → Successor
 told_of parts b moved = record { key = key_of moved.0; tile = slice_index b.tiles (blank_of moved.0); cell = blank_of moved.0; cost = moved.1; sum = sum_of parts moved.0 }
 
 -- what is told of the successors of a board, by the four moves in the order in which they are tried
-abbrev pub successors_of : CostRule → List Part → Position → List (Option Successor)
+abbrev pub successors_of : WeightsModel → List Part → BoardModel → List (Option Successor)
 successors_of rule parts b = map (λ m. option_map (told_of parts b) (successor rule b m)) all_moves
 
 -- whether a move is the one that is left out, if any is
@@ -33,8 +33,8 @@ abbrev pub but : {A : Type 0} → Option Move → (Move → Option A) → Move �
 but left_out made m = if is_left_out left_out m then None else made m
 
 -- the key is that of a board of the grid, and so are the tile and the cell; cost and sum are in their ranges
-pub record FitsGrid (grid : Grid) (s : Successor) : Type 0 where
-  pub board : Position
+pub record FitsGrid (grid : ShapeModel) (s : Successor) : Type 0 where
+  pub board : BoardModel
   pub key : HasKey grid s.key board
   pub tile_some : 0 < s.tile
   pub tile_low : s.tile < cell_count grid
@@ -46,7 +46,7 @@ pub record FitsGrid (grid : Grid) (s : Successor) : Type 0 where
 -- ---- what lies in memory
 
 -- what the memory holds: its shape and the digits of its key
-abbrev pub board_in : Inside → Position
+abbrev pub board_in : Inside → BoardModel
 board_in inside = record { grid = inside.shape; tiles = digits_of (cell_count inside.shape) inside.key }
 
 -- that is a board with this key, and the cell of each number is there

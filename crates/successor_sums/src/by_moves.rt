@@ -1,6 +1,7 @@
 //! What stands for some of the four moves.
 
-ghost use Rattle.std.specs.Prelude.{ℕ, ◌≡◌, ◌≤◌, ◌<◌, if◌then◌else◌, Some, None, length, slice_index_or};
+ghost use Rattle.std.specs.Prelude.{ℕ, ◌≡◌, ◌≤◌, ◌<◌, if◌then◌else◌, Some, None, length};
+ghost use Rattle.std.specs.Prelude.{slice_index_or};
 ghost use Rattle.board.specs.declared.moves.Move.{Move};
 ghost use Rattle.successor_sums.specs.ByMoves.{IsBehind, entries_of, nothing, with_move};
 
@@ -21,9 +22,9 @@ pub struct ByMoves<T> {
 }
 
 impl<T> Model for ByMoves<T> {
-    ghost use Rattle.successor_sums.specs.ByMoves.{FourOf};
+    ghost use Rattle.successor_sums.specs.ByMoves.{ByMovesModel};
 
-    ghost Value = { FourOf T };
+    ghost Value = { ByMovesModel T };
 
     ghost use Rattle.successor_sums.specs.ByMoves.{four_in, IsListed};
 

@@ -1,7 +1,7 @@
 //! The moves by which the blank stays on the board.
 
 ghost use Rattle.std.specs.Prelude.{◌≡◌, ◌<◌};
-ghost use Rattle.board.specs.Grids.{cell_count};
+ghost use Rattle.board.specs.Shapes.{cell_count};
 ghost use Rattle.board.specs.Neighbours.{neighbour};
 ghost use Rattle.successor_sums.specs.ByMoves.{IsBehind, four_by, with_move};
 ghost use Rattle.successor_sums.specs.Unpacked.{but, is_left_out};

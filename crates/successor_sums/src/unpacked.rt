@@ -1,8 +1,8 @@
 //! A board taken apart, and its successors.
 
 ghost use Rattle.std.specs.Prelude.{ℕ, ◌≡◌, ◌*◌, ◌/◌, ◌%◌, ◌^◌, ◌<◌, ◌≤◌, All, IfSome, option_map};
-ghost use Rattle.board.specs.Grids.{cell_count};
-ghost use Rattle.board.specs.Positions.{IsBoard, blank_of};
+ghost use Rattle.board.specs.Shapes.{cell_count};
+ghost use Rattle.board.specs.Boards.{IsBoard, blank_of};
 ghost use Rattle.board.specs.Moves.{successor};
 ghost use Rattle.lower_bound.specs.Tables.{parts_of};
 ghost use Rattle.successor_sums.specs.Unpacked.{FitsGrid, successors_of, told_of};
@@ -38,9 +38,9 @@ pub struct UnpackedBoard {
 }
 
 impl Model for UnpackedBoard {
-    ghost use Rattle.board.specs.Positions.{Position};
+    ghost use Rattle.board.specs.Boards.{BoardModel};
 
-    ghost Value = { Position };
+    ghost Value = { BoardModel };
 
     ghost use Rattle.successor_sums.specs.Unpacked.{board_in, IsUnpacked};
 

@@ -1,20 +1,20 @@
 -- The laws of built tables. Each is the contract of a function that does nothing.
 use Rattle.std.specs.Prelude.{◌≡◌, ◌≤◌}
-use Rattle.board.specs.Positions.{Position, IsBoard}
-use Rattle.board.specs.CostRules.{CostRule}
-use Rattle.pattern_index.specs.Splits.{Split, IsSplit}
+use Rattle.board.specs.Boards.{BoardModel, IsBoard}
+use Rattle.board.specs.Weights.{WeightsModel}
+use Rattle.pattern_index.specs.Partitions.{PartitionModel, IsPartition}
 use Rattle.lower_bound.specs.Bounds.{sum_of}
-use Rattle.lower_bound.specs.Tables.{Tables, parts_of}
+use Rattle.lower_bound.specs.Tables.{BoundModel, parts_of}
 use Rattle.table_sets.specs.Built.{AreBuilt, AreBuiltFolded}
 
 -- tables of the same groups, for the same goal and costs, give each board the same sum
 abbrev pub SumsAreDetermined : Type 0
 SumsAreDetermined =
-    (split : Split) (rule : CostRule) (goal : Position) (one other : Tables)
-    → IsSplit split
+    (split : PartitionModel) (rule : WeightsModel) (goal : BoardModel) (one other : BoundModel)
+    → IsPartition split
     → AreBuilt split rule goal one
     → AreBuilt split rule goal other
-    → (b : Position)
+    → (b : BoardModel)
     → IsBoard b
     → b.grid ≡ split.grid
     → sum_of (parts_of one) b ≡ sum_of (parts_of other) b
@@ -22,11 +22,11 @@ SumsAreDetermined =
 -- so do folded ones
 abbrev pub FoldedSumsAreDetermined : Type 0
 FoldedSumsAreDetermined =
-    (split : Split) (rule : CostRule) (goal : Position) (one other : Tables)
-    → IsSplit split
+    (split : PartitionModel) (rule : WeightsModel) (goal : BoardModel) (one other : BoundModel)
+    → IsPartition split
     → AreBuiltFolded split rule goal one
     → AreBuiltFolded split rule goal other
-    → (b : Position)
+    → (b : BoardModel)
     → IsBoard b
     → b.grid ≡ split.grid
     → sum_of (parts_of one) b ≡ sum_of (parts_of other) b
@@ -34,11 +34,11 @@ FoldedSumsAreDetermined =
 -- and their sum is no greater than that of whole ones
 abbrev pub FoldedSumsAreNoGreater : Type 0
 FoldedSumsAreNoGreater =
-    (split : Split) (rule : CostRule) (goal : Position) (whole folded : Tables)
-    → IsSplit split
+    (split : PartitionModel) (rule : WeightsModel) (goal : BoardModel) (whole folded : BoundModel)
+    → IsPartition split
     → AreBuilt split rule goal whole
     → AreBuiltFolded split rule goal folded
-    → (b : Position)
+    → (b : BoardModel)
     → IsBoard b
     → b.grid ≡ split.grid
     → sum_of (parts_of folded) b ≤ sum_of (parts_of whole) b

@@ -2,7 +2,7 @@
 
 ghost use Rattle.std.specs.Prelude.{◌≡◌, ◌<◌, ◌≤◌, All, length, sum_by, IfOk, IsSome};
 ghost use Rattle.std.specs.Prelude.{MatchOption, map, Some, Ok};
-ghost use Rattle.pattern_index.specs.Selections.{size_of};
+ghost use Rattle.pattern_index.specs.Groups.{size_of};
 ghost use Rattle.lower_bound.specs.Tables.{ArePotentials};
 ghost use Rattle.table_sets.specs.Built.{AreBuilt, AreBuiltFolded, AreEach, IsEachAt, FitAll};
 

@@ -1,10 +1,10 @@
 //! What may be kept of a group's table: the table itself, or what it was folded to.
 
 ghost use Rattle.std.specs.Prelude.{◌≡◌, All, IfNone, IfOk, IfSome};
-ghost use Rattle.board.specs.Positions.{Position};
-ghost use Rattle.board.specs.CostRules.{CostRule};
-ghost use Rattle.pattern_index.specs.Selections.{Selection};
-ghost use Rattle.pattern_graph.specs.Frames.{Fits};
+ghost use Rattle.board.specs.Boards.{BoardModel};
+ghost use Rattle.board.specs.Weights.{WeightsModel};
+ghost use Rattle.pattern_index.specs.Groups.{GroupModel};
+ghost use Rattle.pattern_graph.specs.Frames.{FitsGroup};
 
 use board::{Board, Weights};
 use database_build::{Folded, Frame, Table, build, build_folded, build_folded_in, build_in};
@@ -14,7 +14,7 @@ use std::alloc::Global;
 
 // A table of a group, whole or folded.
 pub(crate) trait GroupTable: Drop {
-    ghost is_true: { CostRule → Position → Selection → Self → Type 0 };
+    ghost is_true: { WeightsModel → BoardModel → GroupModel → Self → Type 0 };
 
     // That of a group for a goal and weights, in one of these frames where one fits it.
     fn build_for(
@@ -69,8 +69,8 @@ impl GroupTable for Folded {
 
 // One of these frames that fits a group.
 fn frame_of<'a>(frames: &'a [Frame], group: &Group) -> Option<&'a Frame>
-    ensures fits { IfSome result (λ frame. Fits frame.now group.now) }
-    ensures none { IfNone result (All (λ frame. ¬ Fits frame group.now) frames.now) }
+    ensures fits { IfSome result (λ frame. FitsGroup frame.now group.now) }
+    ensures none { IfNone result (All (λ frame. ¬ FitsGroup frame group.now) frames.now) }
 {
     'frames: for frame in frames {
         if frame.fits(group) {

@@ -2,7 +2,7 @@
 
 ghost use Rattle.std.specs.Prelude.{◌≡◌, false};
 ghost use Rattle.byte_streams.specs.ByteSink.{sink_has_failed};
-ghost use Rattle.board.specs.CostRules.{unit_rule};
+ghost use Rattle.board.specs.Weights.{unit_rule};
 
 use crate::certificates::{BOUND, ONE_MOVE, ONE_MOVE_ONE, SOLVED, THREE_MOVES};
 use batch_cli::{

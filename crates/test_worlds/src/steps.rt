@@ -1,7 +1,7 @@
 //! The steps.
 
 ghost use Rattle.std.specs.Prelude.{◌≡◌, ◌<◌, IfSome};
-ghost use Rattle.test_worlds.specs.Jobs.{IsFit, IsLed, lent};
+ghost use Rattle.test_worlds.specs.Jobs.{IsJobFit, IsGuidedToGoal, lent};
 
 use crate::problems::Job;
 use board::GREATEST_COST;
@@ -23,8 +23,8 @@ pub fn hire<C: Counting>(
     purse: Purse<C>,
     allowance: Allowance<C>,
 ) -> Option<Worker<C>>
-    requires { IsFit job.now }
-    ensures { IfSome result (λ worker. IsLed job.now worker.lists) }
+    requires { IsJobFit job.now }
+    ensures { IfSome result (λ worker. IsGuidedToGoal job.now worker.lists) }
 {
     tasks_have_guides();
     let _ = job.goal.shape();
@@ -41,9 +41,9 @@ pub fn meet<C: Counting>(
     worker: &mut Worker<C>,
     item: &Item,
 ) -> Option<Result<(), OutOfMemory>>
-    requires job { IsFit job.now }
-    requires led { IsLed job.now worker.old.lists }
-    ensures led { IsLed job.now worker.new.lists }
+    requires job { IsJobFit job.now }
+    requires led { IsGuidedToGoal job.now worker.old.lists }
+    ensures led { IsGuidedToGoal job.now worker.new.lists }
 {
     if item.board.shape() != job.goal.shape() {
         return None;
@@ -64,9 +64,9 @@ pub fn expand<C: Counting, S: Spread>(
     me: usize,
     worker: &mut Worker<C>,
 ) -> Option<Result<(), Refusal>>
-    requires job { IsFit job.now }
-    requires led { IsLed job.now worker.old.lists }
-    ensures led { IsLed job.now worker.new.lists }
+    requires job { IsJobFit job.now }
+    requires led { IsGuidedToGoal job.now worker.old.lists }
+    ensures led { IsGuidedToGoal job.now worker.new.lists }
 {
     if me >= WORKERS || worker.workers() != WORKERS {
         return None;
@@ -83,7 +83,7 @@ fn context_of<'a, S: Spread>(
     owners: &'a S,
     me: usize,
 ) -> Context<'a, S>
-    requires job { IsFit job.now }
+    requires job { IsJobFit job.now }
     requires goal { goal.now ≡ job.now.goal }
     requires me { me < WORKERS }
     ensures { result ≡ lent job.now owners.now me }
@@ -106,9 +106,9 @@ pub fn settle<C: Counting, S: Spread>(
     me: usize,
     worker: &mut Worker<C>,
 ) -> Option<Result<(), Refusal>>
-    requires job { IsFit job.now }
-    requires led { IsLed job.now worker.old.lists }
-    ensures led { IsLed job.now worker.new.lists }
+    requires job { IsJobFit job.now }
+    requires led { IsGuidedToGoal job.now worker.old.lists }
+    ensures led { IsGuidedToGoal job.now worker.new.lists }
 {
     if me >= WORKERS {
         return None;

@@ -11,8 +11,8 @@ use Rattle.std.specs.declared.alloc.Global.{Global}
 use Rattle.std.proofs.lemmas.List.Sums.{sum_by-cons}
 use Rattle.std.proofs.Math.Seq.{map-set_same}
 use Rattle.std.proofs.lemmas.Bool.Decides.{eqb_tells}
-use Rattle.board.specs.Grids.{Grid}
-use Rattle.board.specs.Positions.{Position}
+use Rattle.board.specs.Shapes.{ShapeModel}
+use Rattle.board.specs.Boards.{BoardModel}
 use Rattle.outcomes.specs.Outcomes.{Task}
 use Rattle.world_model.specs.declared.parts.Item.{Item}
 use Rattle.world_model.specs.Shapes.{IsShaped}
@@ -38,24 +38,24 @@ use Rattle.worker_core.specs.Roles.{guide_of, task_of, IsGuided}
 use Rattle.worker_core.specs.Workers.{state_of}
 use Rattle.world_ends.specs.Lowest.{IsLeastBeside, IsLowestInLanes, AreItemsOn}
 use Rattle.world_ends.proofs.PartLemmas.{beside_none, beside_both, beside_same, beside_nothing, least_same, worker_at, worker_from, knows_of, known_from, reached_is}
-use Rattle.world_ends.specs.Parts.{AreGuided, HasParts, states_of, known_in}
+use Rattle.world_ends.specs.Parts.{AreWorkersGuided, HasParts, states_of, known_in}
 use Rattle.world_ends.specs.Readings.{WorldsAnswer}
-use Rattle.rings.specs.Rings.{ReceivingEnd, left_lanes, left_rows, lane_at, Ring, SendingEnd, in_rings, sent_lanes, received_lanes, rings_of_ins, sent_rows, received_rows}
+use Rattle.rings.specs.Rings.{ReceiverModel, left_lanes, left_rows, lane_at, Ring, SenderModel, in_rings, sent_lanes, received_lanes, rings_of_ins, sent_rows, received_rows}
 use Rattle.rings.proofs.GridLemmas.{get_end, get_before, length_end}
 use Rattle.hda_run.specs.Lanes.{IsOfOne}
-use Rattle.hda_run.specs.Problems.{Problem, task_in}
+use Rattle.hda_run.specs.Jobs.{JobModel, task_in}
 use Rattle.thread_joins.specs.Lanes.{lanes_from, by_sender, AreOfWidth, IsLeftInRows, IsTied}
 use Rattle.thread_joins.specs.declared.apart.Joined.{Joined}
-use Rattle.thread_joins.specs.Worlds.{IsWorldOf, AreAtRest, AreApart, parts_in, parts_with, shared_by}
+use Rattle.thread_joins.specs.Worlds.{IsWorldOf, AreAtRest, AreTakenApart, parts_in, parts_with, shared_by}
 use Rattle.thread_joins.proofs.TakenLemmas.{map_at, mapped_at, part_at, part_count, part_workers, some_is}
-use Rattle.board.specs.CostRules.{CostRule}
+use Rattle.board.specs.Weights.{WeightsModel}
 use Rattle.board.specs.Rows.{IsLowerBound}
 use Rattle.outcomes.specs.declared.outcome.Want.TheVariants.{Stated}
-use Rattle.lower_bound.specs.Tables.{Tables}
+use Rattle.lower_bound.specs.Tables.{BoundModel}
 use Rattle.world_model.proofs.KeptLemmas.{kept_quiet as kept_is_quiet}
 use Rattle.hda_run.specs.Worlds.{job_of}
 use Rattle.thread_joins.specs.Threads.{IsJoined}
-use Rattle.thread_joins.specs.Laws.{BoardsHaveOwners, JoinedWorldsAnswer, LimitsAreKept, LimitsAreSpent, NoListStopsThreads, QuietHasNoCredit, QuietIsStill}
+use Rattle.thread_joins.specs.Laws.{BoardsHaveOwners, JoinedWorldsAnswer, JoinedLimitsAreKept, LimitsAreSpent, NoListStopsThreads, QuietHasNoCredit, QuietIsStill}
 
 -- ---- what is left in rings, and the lanes of the world that it makes: the least of one after the other
 
@@ -143,13 +143,13 @@ lane_from from to rows lane at =
 
 -- ---- the items that are left
 
-module _ (w : WorldState) (n : ℕ) (ins : List (Vec ReceivingEnd Global)) (lanes : w.lanes ≡ by_sender n (left_rows ins)) (widths : AreOfWidth n ins) where
+module _ (w : WorldState) (n : ℕ) (ins : List (Vec ReceiverModel Global)) (lanes : w.lanes ≡ by_sender n (left_rows ins)) (widths : AreOfWidth n ins) where
   -- an end that stands in a row is at the end of a lane
-  pub is_lane : (to from : ℕ) (row : Vec ReceivingEnd Global) (it : ReceivingEnd) → slice_get ins to ≡ Some row → slice_get row.items from ≡ Some it → IsLane w from to it.left
+  pub is_lane : (to from : ℕ) (row : Vec ReceiverModel Global) (it : ReceiverModel) → slice_get ins to ≡ Some row → slice_get row.items from ≡ Some it → IsLane w from to it.left
   is_lane to from row it at_row at =
       let lt : from < n = omega (arith, slice_get_within row.items from it at, widths to row at_row) in
-      let here : slice_get (left_rows ins) to ≡ Some (left_lanes row.items) = map_at (λ (v : Vec ReceivingEnd Global). left_lanes v.items) ins to row at_row in
-      let lane : slice_get (left_lanes row.items) from ≡ Some it.left = map_at (λ (e : ReceivingEnd). e.left) row.items from it at in
+      let here : slice_get (left_rows ins) to ≡ Some (left_lanes row.items) = map_at (λ (v : Vec ReceiverModel Global). left_lanes v.items) ins to row at_row in
+      let lane : slice_get (left_lanes row.items) from ≡ Some it.left = map_at (λ (e : ReceiverModel). e.left) row.items from it at in
       record {
         from_lanes = lanes_from from (left_rows ins);
         of_sender = ap (λ (l : List (List Lane)). slice_get l from) lanes ∙ sender_at n from (left_rows ins) lt;
@@ -157,20 +157,20 @@ module _ (w : WorldState) (n : ℕ) (ins : List (Vec ReceivingEnd Global)) (lane
       }
 
   -- and a lane has such an end
-  pub lane_end : (to from : ℕ) (lane : Lane) → IsLane w from to lane → (row : Vec ReceivingEnd Global) × (it : ReceivingEnd) × (slice_get ins to ≡ Some row) × (slice_get row.items from ≡ Some it) × (it.left ≡ lane)
+  pub lane_end : (to from : ℕ) (lane : Lane) → IsLane w from to lane → (row : Vec ReceiverModel Global) × (it : ReceiverModel) × (slice_get ins to ≡ Some row) × (slice_get row.items from ≡ Some it) × (it.left ≡ lane)
   lane_end to from lane is =
       let sender = sender_from n from (left_rows ins) is.from_lanes (sym (ap (λ (l : List (List Lane)). slice_get l from) lanes) ∙ is.of_sender) in
       let receiver : slice_get (lanes_from from (left_rows ins)) to ≡ Some lane = subst (λ (l : List Lane). slice_get l to ≡ Some lane) sender.1 is.of_receiver in
       let has = mapped_at (λ (r : List Lane). slice_index_or r from []) (left_rows ins) to lane receiver in
-      let row = mapped_at (λ (v : Vec ReceivingEnd Global). left_lanes v.items) ins to has.0 has.1 in
+      let row = mapped_at (λ (v : Vec ReceiverModel Global). left_lanes v.items) ins to has.0 has.1 in
       let lt : from < length row.0.items = omega (arith, sender.0, widths to row.0 row.1) in
       let it = get_below row.0.items from lt in
-      let left : slice_get (left_lanes row.0.items) from ≡ Some it.0.left = map_at (λ (e : ReceivingEnd). e.left) row.0.items from it.0 it.1 in
+      let left : slice_get (left_lanes row.0.items) from ≡ Some it.0.left = map_at (λ (e : ReceiverModel). e.left) row.0.items from it.0 it.1 in
       (row.0, it.0, row.1, it.1, sym (get_or_from_slice_get (left_lanes row.0.items) from it.0.left [] left) ∙ (ap (λ (r : List Lane). slice_index_or r from []) row.2 ∙ has.2))
 
   -- the items that are left are of the world's boards
-  pub items_left : (grid : Grid) → IsShaped w → grid ≡ w.task.goal.grid
-      → (row : Vec ReceivingEnd Global) (it : ReceivingEnd) (packet : Packet) → Contains ins row → Contains row.items it → Contains it.left packet → AreItemsOn grid packet
+  pub items_left : (grid : ShapeModel) → IsShaped w → grid ≡ w.task.goal.grid
+      → (row : Vec ReceiverModel Global) (it : ReceiverModel) (packet : Packet) → Contains ins row → Contains row.items it → Contains it.left packet → AreItemsOn grid packet
   items_left grid shaped sides row it packet has_row has_end has_packet =
       let to = place_of ins row has_row in
       let from = place_of row.items it has_end in
@@ -178,7 +178,7 @@ module _ (w : WorldState) (n : ℕ) (ins : List (Vec ReceivingEnd Global)) (lane
       λ item has. let good = are.1.items item has in (good.0.1 ∙ sym sides, good.2)
 
   -- the least cost plus sum of what is left is that of the world's lanes
-  pub lowest_left : (sum : Position → ℕ) (lowest : Option ℕ) → sum ≡ w.task.sum → IsLeastBeside (IsLeftInRows sum ins) None lowest → IsLowestInLanes w lowest
+  pub lowest_left : (sum : BoardModel → ℕ) (lowest : Option ℕ) → sum ≡ w.task.sum → IsLeastBeside (IsLeftInRows sum ins) None lowest → IsLowestInLanes w lowest
   lowest_left sum lowest sums least =
       least_same (IsLeftInRows sum ins) (λ f. (to : ℕ) × (item : Item) × HasInLaneTo w to item × (f ≡ item.cost + w.task.sum item.board))
       (λ f p.
@@ -186,13 +186,13 @@ module _ (w : WorldState) (n : ℕ) (ins : List (Vec ReceivingEnd Global)) (lane
       let it = inner.1 in let most = inner.3 in
       let packet = most.1 in let of_item = most.3 in
       let lies : LiesIn w inner.0 p.0 packet = record { lane = it.left; is = is_lane p.0 inner.0 row it p.2 inner.2; lies = at_in it.left most.0 packet most.2 } in
-      (p.0, of_item.0, (inner.0, packet, lies, of_item.1), subst (λ (s : Position → ℕ). f ≡ of_item.0.cost + s of_item.0.board) sums of_item.2))
+      (p.0, of_item.0, (inner.0, packet, lies, of_item.1), subst (λ (s : BoardModel → ℕ). f ≡ of_item.0.cost + s of_item.0.board) sums of_item.2))
       (λ f p.
       let item = p.1 in let lying = p.2 in
       let lies = lying.2 in
       let has = lane_end p.0 lying.0 lies.lane lies.is in
       let place = place_of has.1.left lying.1 (subst (λ (l : Lane). Contains l lying.1) (sym has.4) lies.lies) in
-      (p.0, has.0, has.2, (lying.0, has.1, has.3, (place.0, lying.1, place.1, (item, lying.3, subst (λ (s : Position → ℕ). f ≡ item.cost + s item.board) (sym sums) p.3)))))
+      (p.0, has.0, has.2, (lying.0, has.1, has.3, (place.0, lying.1, place.1, (item, lying.3, subst (λ (s : BoardModel → ℕ). f ≡ item.cost + s item.board) (sym sums) p.3)))))
       lowest (beside_nothing (IsLeftInRows sum ins) lowest least)
 
 -- ---- joined workers, and what is left in their rings, are the world of parts
@@ -206,8 +206,8 @@ none_summed f (x ∷ xs) each =
 
 -- Parts were taken apart, and then both ends of each ring were looked at, by which what was sent and received did not change, nor the
 -- states of the workers.
-module _ {S C D E K G : Type 0} (owner_of : S → ℕ → Position → ℕ) (p : Problem) (owners : S) (n : ℕ) (old new : Joined C D E K G) (apart : AreApart owner_of p owners n old)
-    (states : states_of new.workers.items ≡ states_of old.workers.items) (guided : AreGuided (task_in p) (guide_of (task_in p)) new.workers.items)
+module _ {S C D E K G : Type 0} (owner_of : S → ℕ → BoardModel → ℕ) (p : JobModel) (owners : S) (n : ℕ) (old new : Joined C D E K G) (apart : AreTakenApart owner_of p owners n old)
+    (states : states_of new.workers.items ≡ states_of old.workers.items) (guided : AreWorkersGuided (task_in p) (guide_of (task_in p)) new.workers.items)
     (sent : sent_rows new.outs.items ≡ sent_rows old.outs.items) (received : received_rows new.ins.items ≡ received_rows old.ins.items) (rings : rings_of_ins new.ins.items ≡ rings_of_ins old.ins.items)
     (tied : (i j : ℕ) → i < n → j < n → IsTied (lane_at (sent_rows new.outs.items) i j) (lane_at (received_rows new.ins.items) j i) (lane_at (left_rows new.ins.items) j i)) where
   abbrev shared : Shared
@@ -232,15 +232,15 @@ module _ {S C D E K G : Type 0} (owner_of : S → ℕ → Position → ℕ) (p :
   worker_count = sym (length-map new.workers.items (λ (w : Worker C D E K G). state_of w)) ∙ state_count
 
   sent_count : length (sent_rows new.outs.items) ≡ length (states_of new.workers.items)
-  sent_count = ap (λ (rs : List (List Lane)). length rs) sent ∙ (length-map old.outs.items (λ (v : Vec SendingEnd Global). sent_lanes v.items) ∙ (apart.outs ∙ sym state_count))
+  sent_count = ap (λ (rs : List (List Lane)). length rs) sent ∙ (length-map old.outs.items (λ (v : Vec SenderModel Global). sent_lanes v.items) ∙ (apart.outs ∙ sym state_count))
 
   received_count : length (received_rows new.ins.items) ≡ length (states_of new.workers.items)
-  received_count = ap (λ (rs : List (List Lane)). length rs) received ∙ (length-map old.ins.items (λ (v : Vec ReceivingEnd Global). received_lanes v.items) ∙ (apart.ins ∙ sym state_count))
+  received_count = ap (λ (rs : List (List Lane)). length rs) received ∙ (length-map old.ins.items (λ (v : Vec ReceiverModel Global). received_lanes v.items) ∙ (apart.ins ∙ sym state_count))
 
   ins_count : length left ≡ n
   ins_count =
-      length-map new.ins.items (λ (v : Vec ReceivingEnd Global). left_lanes v.items)
-      ∙ (sym (length-map new.ins.items (λ (v : Vec ReceivingEnd Global). received_lanes v.items)) ∙ (received_count ∙ state_count))
+      length-map new.ins.items (λ (v : Vec ReceiverModel Global). left_lanes v.items)
+      ∙ (sym (length-map new.ins.items (λ (v : Vec ReceiverModel Global). received_lanes v.items)) ∙ (received_count ∙ state_count))
 
   count : length parts ≡ n
   count = part_count (states_of new.workers.items) (sent_rows new.outs.items) (received_rows new.ins.items) sent_count received_count ∙ state_count
@@ -298,11 +298,11 @@ module _ {S C D E K G : Type 0} (owner_of : S → ℕ → Position → ℕ) (p :
 
     widths : AreOfWidth n new.ins.items
     widths to row at =
-        let here : slice_get (rings_of_ins new.ins.items) to ≡ Some (in_rings row.items) = map_at (λ (v : Vec ReceivingEnd Global). in_rings v.items) new.ins.items to row at in
+        let here : slice_get (rings_of_ins new.ins.items) to ≡ Some (in_rings row.items) = map_at (λ (v : Vec ReceiverModel Global). in_rings v.items) new.ins.items to row at in
         let there : slice_index_or (rings_of_ins old.ins.items) to [] ≡ in_rings row.items = ap (λ (rs : List (List Ring)). slice_index_or rs to []) (sym rings) ∙ get_or_from_slice_get (rings_of_ins new.ins.items) to (in_rings row.items) [] here in
         let low = slice_get_within new.ins.items to row at in
-        let lt : to < n = omega (arith, low, ins_count, length-map new.ins.items (λ (v : Vec ReceivingEnd Global). left_lanes v.items)) in
-        sym (length-map row.items (λ (e : ReceivingEnd). e.ring)) ∙ (ap (λ (rs : List Ring). length rs) (sym there) ∙ apart.paired.rows_in to lt)
+        let lt : to < n = omega (arith, low, ins_count, length-map new.ins.items (λ (v : Vec ReceiverModel Global). left_lanes v.items)) in
+        sym (length-map row.items (λ (e : ReceiverModel). e.ring)) ∙ (ap (λ (rs : List Ring). length rs) (sym there) ∙ apart.paired.rows_in to lt)
 
     module _ (book : BookState) (floors : length book.floors ≡ n) (bound : All (λ worker. worker.purse ≤ book.credit) (states_of new.workers.items))
         (credit : book.stop ≡ Some Quiet → book.credit ≡ 0) (none : book.stop ≡ Some Quiet → (i j : ℕ) → i < n → j < n → lane_at left j i ≡ []) where
@@ -350,7 +350,7 @@ module _ {C D E K G : Type 0} (xs : List (Worker C D E K G)) (i : ℕ) (d new : 
   pub states_kept : (states : List WorkerState) → states_of xs ≡ states → state_of new ≡ state_of (get_or xs i d) → states_of (set xs i new) ≡ states
   states_kept states same kept = map-set_same state_of xs i new d kept ∙ same
 
-  pub guided_kept : (task : Task) (guide : Guide) → i < length xs → (IsGuided task guide (get_or xs i d).lists → IsGuided task guide new.lists) → AreGuided task guide xs → AreGuided task guide (set xs i new)
+  pub guided_kept : (task : Task) (guide : Guide) → i < length xs → (IsGuided task guide (get_or xs i d).lists → IsGuided task guide new.lists) → AreWorkersGuided task guide xs → AreWorkersGuided task guide (set xs i new)
   guided_kept task guide within kept all = All-set (λ (worker : Worker C D E K G). IsGuided task guide worker.lists) xs i new (kept (all i d within)) all
 
 -- one worker more has nothing below the limit
@@ -403,14 +403,14 @@ module _ (w : WorldState) (rest : AreAtRest w) where
   none_under_way to item (inr (inl has)) = none_in_empty has.2 item (emptied has.1.unsent to has.2 (rest.workers has.0 has.1 has.3).unsent has.4) has.5
   none_under_way to item (inr (inr has)) = none_lies has.0 to has.1 has.2
 
-module _ (task : Task) (owner_among : ℕ → Position → ℕ) (states : List WorkerState) (w : WorldState) (parts : HasParts task owner_among states w) where
+module _ (task : Task) (owner_among : ℕ → BoardModel → ℕ) (states : List WorkerState) (w : WorldState) (parts : HasParts task owner_among states w) where
   goal_board : IsTaskBoard task task.goal
   goal_board = subst (λ (t : Task). IsTaskBoard t t.goal) parts.asks (parts.shaped.task.goal, refl)
 
   start_board : IsTaskBoard task task.start
   start_board = subst (λ (t : Task). IsTaskBoard t t.start) parts.asks (parts.shaped.task.start, parts.shaped.task.sides)
 
-  high_frontier : AreAtRest w → (limit : ℕ) → All (λ worker. HasNothingBelow task worker limit) states → (b : Position) (cost : ℕ) → IsInFrontier w b cost → limit ≤ cost + w.task.sum b
+  high_frontier : AreAtRest w → (limit : ℕ) → All (λ worker. HasNothingBelow task worker limit) states → (b : BoardModel) (cost : ℕ) → IsInFrontier w b cost → limit ≤ cost + w.task.sum b
   high_frontier rest limit high b cost (inl has) =
       let knows = has.2 in
       let at = worker_from task owner_among states w parts has.0 knows.worker knows.is in
@@ -452,7 +452,7 @@ module _ (task : Task) (owner_among : ℕ → Position → ℕ) (states : List W
   has_begun has = (
     w.owner task.start,
     has.0,
-    subst (λ (b : Position). Knows w (w.owner task.start) b has.0) (ap (λ (t : Task). t.start) (sym parts.asks)) (knows_of task owner_among states w parts task.start has.0 start_board has.1),
+    subst (λ (b : BoardModel). Knows w (w.owner task.start) b has.0) (ap (λ (t : Task). t.start) (sym parts.asks)) (knows_of task owner_among states w parts task.start has.0 start_board has.1),
     has.2,
   )
 
@@ -488,17 +488,17 @@ module _ (task : Task) (owner_among : ℕ → Position → ℕ) (states : List W
 -- ---- the outcome of joined workers
 
 -- one task of the same four
-pub same_task : (p : Problem) (start goal : Position) (rule : CostRule) (tables : Tables) → start ≡ p.start → goal ≡ p.goal → rule ≡ p.rule → tables ≡ p.tables → task_of start goal rule tables ≡ task_in p
+pub same_task : (p : JobModel) (start goal : BoardModel) (rule : WeightsModel) (tables : BoundModel) → start ≡ p.start → goal ≡ p.goal → rule ≡ p.rule → tables ≡ p.tables → task_of start goal rule tables ≡ task_in p
 same_task p start goal rule tables e f g h = λ i. task_of (e i) (f i) (g i) (h i)
 
 -- the world with the same book and workers
-pub world_at : {S C D E K G : Type 0} (owner_of : S → ℕ → Position → ℕ) (p : Problem) (owners : S) (n : ℕ) (book book' : BookState) (workers workers' : List (Worker C D E K G)) (ins : List (Vec ReceivingEnd Global)) (w : WorldState) → book ≡ book' → workers ≡ workers'
+pub world_at : {S C D E K G : Type 0} (owner_of : S → ℕ → BoardModel → ℕ) (p : JobModel) (owners : S) (n : ℕ) (book book' : BookState) (workers workers' : List (Worker C D E K G)) (ins : List (Vec ReceiverModel Global)) (w : WorldState) → book ≡ book' → workers ≡ workers'
     → IsWorldOf owner_of p owners n book workers ins w → IsWorldOf owner_of p owners n book' workers' ins w
 world_at {S} {C} {D} {E} {K} {G} owner_of p owners n book book' workers workers' ins w a b is = subst (λ (x : BookState × List (Worker C D E K G)). IsWorldOf owner_of p owners n x.0 x.1 ins w) (λ t. (a t, b t)) is
 
-module _ {S C D E K G : Type 0} (owner_of : S → ℕ → Position → ℕ) (p : Problem) (owners : S) (n : ℕ) (book : BookState) where
+module _ {S C D E K G : Type 0} (owner_of : S → ℕ → BoardModel → ℕ) (p : JobModel) (owners : S) (n : ℕ) (book : BookState) where
   -- the world of workers of the same states, whose lists are guided
-  pub world_same : (workers workers' : List (Worker C D E K G)) (ins : List (Vec ReceivingEnd Global)) (w : WorldState) → states_of workers' ≡ states_of workers → AreGuided (task_in p) (guide_of (task_in p)) workers'
+  pub world_same : (workers workers' : List (Worker C D E K G)) (ins : List (Vec ReceiverModel Global)) (w : WorldState) → states_of workers' ≡ states_of workers → AreWorkersGuided (task_in p) (guide_of (task_in p)) workers'
       → IsWorldOf owner_of p owners n book workers ins w → IsWorldOf owner_of p owners n book workers' ins w
   world_same workers workers' ins w same guided is = record {
     count =
@@ -513,7 +513,7 @@ module _ {S C D E K G : Type 0} (owner_of : S → ℕ → Position → ℕ) (p :
   }
 
   -- the world is that of threads that were joined, where the workers' expansions add up
-  pub joined_is : (workers : List (Worker C D E K G)) (ins : List (Vec ReceivingEnd Global)) (w : WorldState) (expanded : ℕ) → IsWorldOf owner_of p owners n book workers ins w
+  pub joined_is : (workers : List (Worker C D E K G)) (ins : List (Vec ReceiverModel Global)) (w : WorldState) (expanded : ℕ) → IsWorldOf owner_of p owners n book workers ins w
       → book.limit ≡ p.limit
       → expanded ≡ sum_by (λ worker. worker.expansions) (states_of workers)
       → expanded ≤ book.granted
@@ -546,7 +546,7 @@ module _ {S C D E K G : Type 0} (owner_of : S → ℕ → Position → ℕ) (p :
 pub have_owners : BoardsHaveOwners
 have_owners job w b joined = (joined.owners b, joined.shaped.owners b, joined.count)
 
-pub limits_kept : LimitsAreKept
+pub limits_kept : JoinedLimitsAreKept
 limits_kept job w joined = let l = joined.limit in let within = joined.within_limit in omega (arith, l, within)
 
 pub limits_spent : LimitsAreSpent

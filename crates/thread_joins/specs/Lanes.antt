@@ -2,8 +2,8 @@
 use Rattle.std.specs.Prelude.{ℕ, ◌≡◌, ◌≢◌, ◌≤◌, ◌++◌, List, [], Vec, length, map, Some, slice_get, slice_index_or}
 use Rattle.std.specs.List.{range_with_len}
 use Rattle.std.specs.declared.alloc.Global.{Global}
-use Rattle.board.specs.Positions.{Position}
-use Rattle.rings.specs.Rings.{SendingEnd, ReceivingEnd, rings_of_outs, rings_of_ins, sent_rows, received_rows, left_rows, lane_at}
+use Rattle.board.specs.Boards.{BoardModel}
+use Rattle.rings.specs.Rings.{SenderModel, ReceiverModel, rings_of_outs, rings_of_ins, sent_rows, received_rows, left_rows, lane_at}
 use Rattle.world_model.specs.declared.limits.TheConstants.{LANE_LIMIT}
 use Rattle.world_model.specs.Workers.{Lane}
 use Rattle.hda_run.specs.Lanes.{IsOfOne, IsInLane}
@@ -13,13 +13,13 @@ abbrev pub IsTied : Lane → Lane → Lane → Type 0
 IsTied sent received left = (received ++ left ≡ sent) × (length left ≤ LANE_LIMIT)
 
 -- the ends of all workers after those from worker `from` were looked at: only what they have seen and not taken may be another
-pub record AreLookedAt (from : ℕ) (ins ins' : List (Vec ReceivingEnd Global)) : Type 0 where
+pub record AreLookedAt (from : ℕ) (ins ins' : List (Vec ReceiverModel Global)) : Type 0 where
   pub rings : rings_of_ins ins' ≡ rings_of_ins ins
   pub received : received_rows ins' ≡ received_rows ins
   pub others : (j k : ℕ) → k ≢ from → lane_at (left_rows ins') j k ≡ lane_at (left_rows ins) j k
 
 -- the ends of all rings after both of each were looked at: of the same rings, by which the same was sent and received
-pub record AreSameEnds (outs outs' : List (Vec SendingEnd Global)) (ins ins' : List (Vec ReceivingEnd Global)) : Type 0 where
+pub record AreSameEnds (outs outs' : List (Vec SenderModel Global)) (ins ins' : List (Vec ReceiverModel Global)) : Type 0 where
   pub out_rings : rings_of_outs outs' ≡ rings_of_outs outs
   pub sent : sent_rows outs' ≡ sent_rows outs
   pub in_rings : rings_of_ins ins' ≡ rings_of_ins ins
@@ -34,17 +34,17 @@ abbrev pub by_sender : ℕ → List (List Lane) → List (List Lane)
 by_sender n rows = map (λ from. lanes_from from rows) (range_with_len 0 n)
 
 -- each row has n ends
-abbrev pub AreOfWidth : ℕ → List (Vec ReceivingEnd Global) → Type 0
-AreOfWidth n ins = (to : ℕ) (row : Vec ReceivingEnd Global) → slice_get ins to ≡ Some row → length row.items ≡ n
+abbrev pub AreOfWidth : ℕ → List (Vec ReceiverModel Global) → Type 0
+AreOfWidth n ins = (to : ℕ) (row : Vec ReceiverModel Global) → slice_get ins to ≡ Some row → length row.items ≡ n
 
 -- the cost plus sum of an item in a packet that this end has seen and not taken
-abbrev pub IsLeft : (Position → ℕ) → ReceivingEnd → ℕ → Type 0
+abbrev pub IsLeft : (BoardModel → ℕ) → ReceiverModel → ℕ → Type 0
 IsLeft sum end f = IsInLane sum end.left f
 
 -- that of one of these ends
-abbrev pub IsLeftInRow : (Position → ℕ) → List ReceivingEnd → ℕ → Type 0
+abbrev pub IsLeftInRow : (BoardModel → ℕ) → List ReceiverModel → ℕ → Type 0
 IsLeftInRow sum row f = IsOfOne (IsLeft sum) row f
 
 -- that of one of the ends of all workers
-abbrev pub IsLeftInRows : (Position → ℕ) → List (Vec ReceivingEnd Global) → ℕ → Type 0
+abbrev pub IsLeftInRows : (BoardModel → ℕ) → List (Vec ReceiverModel Global) → ℕ → Type 0
 IsLeftInRows sum rows f = IsOfOne (λ row. IsLeftInRow sum row.items) rows f

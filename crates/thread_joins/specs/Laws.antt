@@ -1,6 +1,6 @@
 -- The laws of joined worlds. Each is the contract of a function that does nothing.
 use Rattle.std.specs.Prelude.{ℕ, ◌≡◌, ◌≢◌, ◌+◌, ◌*◌, ◌≤◌, ◌<◌, length, None, Some}
-use Rattle.board.specs.Positions.{Position}
+use Rattle.board.specs.Boards.{BoardModel}
 use Rattle.board.specs.Rows.{IsLowerBound}
 use Rattle.outcomes.specs.declared.outcome.Want.TheVariants.{Stated}
 use Rattle.outcomes.specs.Outcomes.{Task}
@@ -15,11 +15,11 @@ use Rattle.thread_joins.specs.Threads.{IsJoined, GivesIfKept}
 
 -- each board is owned in the joined world by whom the job says, one of its workers, of which there are as many as the job has
 abbrev pub BoardsHaveOwners : Type 0
-BoardsHaveOwners = (job : Job) (w : WorldState) (b : Position) → IsJoined job w → (w.owner b ≡ job.owner b) × (w.owner b < length w.workers) × (length w.workers ≡ job.count)
+BoardsHaveOwners = (job : Job) (w : WorldState) (b : BoardModel) → IsJoined job w → (w.owner b ≡ job.owner b) × (w.owner b < length w.workers) × (length w.workers ≡ job.count)
 
 -- a joined world has expanded no more boards than its book allows
-abbrev pub LimitsAreKept : Type 0
-LimitsAreKept = (job : Job) (w : WorldState) → IsJoined job w → expansion_count w ≤ w.book.limit
+abbrev pub JoinedLimitsAreKept : Type 0
+JoinedLimitsAreKept = (job : Job) (w : WorldState) → IsJoined job w → expansion_count w ≤ w.book.limit
 
 -- where it was halted for the limit, its book has granted all of that, and its workers have expanded it but for one grant for each
 abbrev pub LimitsAreSpent : Type 0

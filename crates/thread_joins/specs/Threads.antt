@@ -1,6 +1,6 @@
 -- Runs by threads.
 use Rattle.std.specs.Prelude.{ℕ, ◌≡◌, ◌≢◌, ◌+◌, ◌*◌, ◌≤◌, length, Option, None, Some, List, map, slice_get}
-use Rattle.board.specs.Positions.{Position}
+use Rattle.board.specs.Boards.{BoardModel}
 use Rattle.outcomes.specs.declared.outcome.Want.TheVariants.{Stated}
 use Rattle.world_model.specs.declared.limits.TheConstants.{GREATEST_GRANT}
 use Rattle.world_model.specs.declared.steps.Stop.TheVariants.{Quiet, Limit, Memory}
@@ -10,18 +10,18 @@ use Rattle.world_model.specs.Quiet.{IsKept}
 use Rattle.world_model.specs.Shapes.{IsShaped}
 use Rattle.world_model.specs.Soundness.{IsSound}
 use Rattle.world_model.specs.Worlds.{WorldState}
-use Rattle.hda_run.specs.Problems.{Problem}
+use Rattle.hda_run.specs.Jobs.{JobModel}
 use Rattle.hda_run.specs.Worlds.{job_of}
 use Rattle.thread_joins.specs.Worlds.{AreAtRest}
 use Rattle.rings.specs.Rings.{ArePaired}
-use Rattle.thread_parts.specs.Parts.{Face}
+use Rattle.thread_parts.specs.Parts.{SealedModel}
 
 -- The world of a job's workers, when all were joined. It is shaped and sound. Where it is quiet, all is at rest. At most the limit was
 -- expanded; where it was halted for the limit, all of that is granted, and spent but for one grant for each worker. No list of steps
 -- stopped it.
 pub record IsJoined (job : Job) (w : WorldState) : Type 0 where
   pub task : w.task ≡ job.task
-  pub owners : (b : Position) → w.owner b ≡ job.owner b
+  pub owners : (b : BoardModel) → w.owner b ≡ job.owner b
   pub count : length w.workers ≡ job.count
   pub limit : w.book.limit ≡ job.limit
   pub shaped : IsShaped w
@@ -37,13 +37,13 @@ GivesIfKept gives w None = ¬ IsKept w
 GivesIfKept gives w (Some answer) = IsKept w × gives w answer
 
 -- What is found of n threads: their joined workers make a world, of which this is found.
-abbrev pub IsFoundByThreads : {S X : Type 0} → (WorldState → X → Type 0) → (S → ℕ → Position → ℕ) → Problem → S → ℕ → Option X → Type 0
+abbrev pub IsFoundByThreads : {S X : Type 0} → (WorldState → X → Type 0) → (S → ℕ → BoardModel → ℕ) → JobModel → S → ℕ → Option X → Type 0
 IsFoundByThreads gives owner_of p owners n found = (w : WorldState) × IsJoined (job_of owner_of p owners n) w × GivesIfKept gives w found
 
 -- the parts of n workers that share a problem and own boards alike, each at its place, with both ends of each ring between them
-pub record IsJoint {S : Type 0} (p : Problem) (owners : S) (n : ℕ) (faces : List (Face S)) : Type 0 where
+pub record IsJoint {S : Type 0} (p : JobModel) (owners : S) (n : ℕ) (faces : List (SealedModel S)) : Type 0 where
   pub count : length faces ≡ n
-  pub jobs : (i : ℕ) (face : Face S) → slice_get faces i ≡ Some face → face.job ≡ p
-  pub spreads : (i : ℕ) (face : Face S) → slice_get faces i ≡ Some face → face.owners ≡ owners
-  pub places : (i : ℕ) (face : Face S) → slice_get faces i ≡ Some face → face.me ≡ i
+  pub jobs : (i : ℕ) (face : SealedModel S) → slice_get faces i ≡ Some face → face.job ≡ p
+  pub spreads : (i : ℕ) (face : SealedModel S) → slice_get faces i ≡ Some face → face.owners ≡ owners
+  pub places : (i : ℕ) (face : SealedModel S) → slice_get faces i ≡ Some face → face.me ≡ i
   pub paired : ArePaired n (map (λ face. face.outs) faces) (map (λ face. face.ins) faces)

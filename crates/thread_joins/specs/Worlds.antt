@@ -1,8 +1,8 @@
 -- The world of joined workers, and of what is left in their rings.
 use Rattle.std.specs.Prelude.{ℕ, ◌≡◌, List, [], ◌∷◌, Vec, length, Some, slice_get}
 use Rattle.std.specs.declared.alloc.Global.{Global}
-use Rattle.board.specs.Positions.{Position}
-use Rattle.rings.specs.Rings.{ReceivingEnd, ArePaired, rings_of_outs, rings_of_ins, sent_rows, received_rows, left_rows}
+use Rattle.board.specs.Boards.{BoardModel}
+use Rattle.rings.specs.Rings.{ReceiverModel, ArePaired, rings_of_outs, rings_of_ins, sent_rows, received_rows, left_rows}
 use Rattle.world_model.specs.declared.steps.Stop.TheVariants.{Quiet}
 use Rattle.world_model.specs.Books.{BookState}
 use Rattle.world_model.specs.Credit.{packet_count}
@@ -13,13 +13,13 @@ use Rattle.thread_model.specs.Parts.{PartState, IsRole, Keeps}
 use Rattle.thread_model.specs.Joined.{Shared, role_in}
 use Rattle.worker_core.specs.declared.worker.Worker.{Worker}
 use Rattle.worker_core.specs.Roles.{guide_of}
-use Rattle.world_ends.specs.Parts.{HasParts, AreGuided, states_of}
-use Rattle.hda_run.specs.Problems.{Problem, task_in}
+use Rattle.world_ends.specs.Parts.{HasParts, AreWorkersGuided, states_of}
+use Rattle.hda_run.specs.Jobs.{JobModel, task_in}
 use Rattle.thread_joins.specs.declared.apart.Joined.{Joined}
 use Rattle.thread_joins.specs.Lanes.{AreOfWidth, by_sender}
 
 -- what n workers share: the task, and who owns which board among n
-abbrev pub shared_by : {S : Type 0} → (S → ℕ → Position → ℕ) → Problem → S → ℕ → Shared
+abbrev pub shared_by : {S : Type 0} → (S → ℕ → BoardModel → ℕ) → JobModel → S → ℕ → Shared
 shared_by owner_of p owners n = record { task = task_in p; owner = owner_of owners n }
 
 -- workers, with what each sent and received
@@ -41,21 +41,21 @@ module _ {C D E K G : Type 0} where
 
   -- The workers of n parts that were taken apart, and the ends of their rings. Each worker keeps, with what it sent and received, what a
   -- part keeps.
-  pub record AreApart {S : Type 0} (owner_of : S → ℕ → Position → ℕ) (p : Problem) (owners : S) (n : ℕ) (joined : Joined C D E K G) : Type 0 where
+  pub record AreTakenApart {S : Type 0} (owner_of : S → ℕ → BoardModel → ℕ) (p : JobModel) (owners : S) (n : ℕ) (joined : Joined C D E K G) : Type 0 where
     pub workers : length joined.workers.items ≡ n
     pub outs : length joined.outs.items ≡ n
     pub ins : length joined.ins.items ≡ n
     pub roles : (i : ℕ) (part : PartState) → slice_get (parts_in joined) i ≡ Some part → IsRole n (role_in (shared_by owner_of p owners n) i)
     pub keep : (i : ℕ) (part : PartState) → slice_get (parts_in joined) i ≡ Some part → Keeps n (role_in (shared_by owner_of p owners n) i) part
-    pub guided : AreGuided (task_in p) (guide_of (task_in p)) joined.workers.items
+    pub guided : AreWorkersGuided (task_in p) (guide_of (task_in p)) joined.workers.items
     pub paired : ArePaired n (rings_of_outs joined.outs.items) (rings_of_ins joined.ins.items)
 
   -- The world is that of n workers of joined threads, with this book and with what is left in their rings. Where the book is quiet, all is
   -- at rest.
-  pub record IsWorldOf {S : Type 0} (owner_of : S → ℕ → Position → ℕ) (p : Problem) (owners : S) (n : ℕ) (book : BookState) (workers : List (Worker C D E K G)) (ins : List (Vec ReceivingEnd Global)) (w : WorldState) : Type 0 where
+  pub record IsWorldOf {S : Type 0} (owner_of : S → ℕ → BoardModel → ℕ) (p : JobModel) (owners : S) (n : ℕ) (book : BookState) (workers : List (Worker C D E K G)) (ins : List (Vec ReceiverModel Global)) (w : WorldState) : Type 0 where
     pub count : length workers ≡ n
     pub parts : HasParts (task_in p) (owner_of owners) (states_of workers) w
-    pub guided : AreGuided (task_in p) (guide_of (task_in p)) workers
+    pub guided : AreWorkersGuided (task_in p) (guide_of (task_in p)) workers
     pub book_is : w.book ≡ book
     pub widths : AreOfWidth n ins
     pub lanes : w.lanes ≡ by_sender n (left_rows ins)

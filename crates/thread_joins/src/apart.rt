@@ -2,9 +2,9 @@
 
 ghost use Rattle.std.specs.Prelude.{◌≤◌, IfOk, vec_len};
 ghost use Rattle.world_model.specs.declared.limits.TheConstants.{WORKER_LIMIT};
-ghost use Rattle.hda_run.specs.Problems.{Problem};
+ghost use Rattle.hda_run.specs.Jobs.{JobModel};
 ghost use Rattle.thread_joins.specs.Threads.{IsJoint};
-ghost use Rattle.thread_joins.specs.Worlds.{AreApart};
+ghost use Rattle.thread_joins.specs.Worlds.{AreTakenApart};
 
 use memory::OutOfMemory;
 use message_ledger::{Counting, Tokens};
@@ -28,8 +28,8 @@ pub(crate) fn take_apart<S: Spread, C: Tokens>(
     sealed: Vec<Sealed<'_, S, C>>,
 ) -> Result<Joined<C>, OutOfMemory>
     requires few { vec_len sealed ≤ WORKER_LIMIT }
-    ensures { (p : Problem) (owners : S) → IsJoint p owners C.workers sealed.entry.items
-        → IfOk result (AreApart S.owner_of p owners C.workers) }
+    ensures { (p : JobModel) (owners : S) → IsJoint p owners C.workers sealed.entry.items
+        → IfOk result (AreTakenApart S.owner_of p owners C.workers) }
 {
     let count = sealed.len();
     let mut workers = memory::with_capacity(alloc, count)?;

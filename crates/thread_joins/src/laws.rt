@@ -1,6 +1,6 @@
 //! The laws of joined worlds: each is the contract of a function that does nothing.
 
-ghost use Rattle.thread_joins.specs.Laws.{BoardsHaveOwners, LimitsAreKept, LimitsAreSpent};
+ghost use Rattle.thread_joins.specs.Laws.{BoardsHaveOwners, JoinedLimitsAreKept, LimitsAreSpent};
 ghost use Rattle.thread_joins.specs.Laws.{QuietHasNoCredit, QuietIsStill};
 ghost use Rattle.thread_joins.specs.Laws.{JoinedWorldsAnswer, KeptWorldsAloneGive};
 ghost use Rattle.thread_joins.specs.Laws.{NoListStopsThreads};
@@ -17,7 +17,7 @@ pub fn boards_have_owners()
 /// A joined world expanded no more than the limit, and where it was halted for that, nearly all.
 #[tactic(auto, using(crate::proofs::WorldLemmas::limits_kept, crate::proofs::WorldLemmas::limits_spent))]
 pub fn limits_are_kept()
-    ensures kept { LimitsAreKept }
+    ensures kept { JoinedLimitsAreKept }
     ensures spent { LimitsAreSpent }
 {}
 

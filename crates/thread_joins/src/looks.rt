@@ -12,8 +12,8 @@ ghost use Rattle.world_model.specs.Workers.{HasNothingBelow};
 ghost use Rattle.world_model.specs.Worlds.{WorldState};
 ghost use Rattle.worker_core.specs.Roles.{IsGuided, guide_of};
 ghost use Rattle.worker_core.specs.Workers.{state_of};
-ghost use Rattle.world_ends.specs.Parts.{states_of, known_in, AreGuided, HasParts};
-ghost use Rattle.hda_run.specs.Problems.{task_in};
+ghost use Rattle.world_ends.specs.Parts.{states_of, known_in, AreWorkersGuided, HasParts};
+ghost use Rattle.hda_run.specs.Jobs.{task_in};
 ghost use Rattle.thread_joins.specs.Worlds.{AreAtRest};
 
 use board::Board;
@@ -35,14 +35,14 @@ pub(crate) fn is_kept<C: Tokens, S: Spread>(
 ) -> bool
     requires limit { search.now.job.limit ≡ C.limit }
     requires count { length workers.old ≡ search.now.workers }
-    requires guided { AreGuided (task_in search.now.job)
+    requires guided { AreWorkersGuided (task_in search.now.job)
         (guide_of (task_in search.now.job)) workers.old }
     ensures kept { (w : WorldState) → HasParts (task_in search.now.job)
         (S.owner_of search.now.owners.now) (states_of workers.old) w
         → w.book ≡ book.now → (book.now.stop ≡ Some Stop.Quiet → AreAtRest w)
         → IsTrue result ↔ IsKept w }
     ensures same { states_of workers.new ≡ states_of workers.old }
-    ensures guided { AreGuided (task_in search.now.job)
+    ensures guided { AreWorkersGuided (task_in search.now.job)
         (guide_of (task_in search.now.job)) workers.new }
 {
     let Some(stop) = book.stop() else {
@@ -64,7 +64,7 @@ fn is_quiet<C: Counting, S: Spread>(
     workers: &mut [Worker<C>],
 ) -> bool
     requires some { 0 < length workers.old }
-    requires guided { AreGuided (task_in search.now.job)
+    requires guided { AreWorkersGuided (task_in search.now.job)
         (guide_of (task_in search.now.job)) workers.old }
     ensures quiet { IsTrue result ↔ ((option_map (λ known. known.cost)
         (known_in (S.owner_of search.now.owners.now) (states_of workers.old)
@@ -72,7 +72,7 @@ fn is_quiet<C: Counting, S: Spread>(
         × All (λ worker. HasNothingBelow (task_in search.now.job) worker (limit_of best))
         (states_of workers.old)) }
     ensures same { states_of workers.new ≡ states_of workers.old }
-    ensures guided { AreGuided (task_in search.now.job)
+    ensures guided { AreWorkersGuided (task_in search.now.job)
         (guide_of (task_in search.now.job)) workers.new }
 {
     if !is_reached(search, best, workers) {
@@ -132,12 +132,12 @@ fn known_of<C: Counting, S: Spread>(
 
 // Whether no worker has a board on its open list with a cost plus sum below a limit.
 fn are_high<C: Counting>(workers: &mut [Worker<C>], limit: u32) -> bool
-    ensures high { (task : Task) (guide : Guide) → AreGuided task guide workers.old
+    ensures high { (task : Task) (guide : Guide) → AreWorkersGuided task guide workers.old
         → IsTrue result
         ↔ All (λ worker. HasNothingBelow task worker limit) (states_of workers.old) }
     ensures same { states_of workers.new ≡ states_of workers.old }
-    ensures guided { (task : Task) (guide : Guide) → AreGuided task guide workers.old
-        → AreGuided task guide workers.new }
+    ensures guided { (task : Task) (guide : Guide) → AreWorkersGuided task guide workers.old
+        → AreWorkersGuided task guide workers.new }
 {
     'workers: for i in 0..workers.len() {
         if !is_high(&mut workers[i], limit) {

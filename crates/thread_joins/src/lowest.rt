@@ -4,7 +4,7 @@ ghost use Rattle.std.specs.Prelude.{Contains, Vec};
 ghost use Rattle.std.specs.declared.alloc.Global.{Global};
 ghost use Rattle.lower_bound.specs.Bounds.{sum_of};
 ghost use Rattle.lower_bound.specs.Tables.{parts_of};
-ghost use Rattle.rings.specs.Rings.{ReceivingEnd};
+ghost use Rattle.rings.specs.Rings.{ReceiverModel};
 ghost use Rattle.world_model.specs.Workers.{Packet};
 ghost use Rattle.world_ends.specs.Lowest.{IsLeastBeside, AreItemsOn};
 ghost use Rattle.thread_joins.specs.Lanes.{IsLeft, IsLeftInRow, IsLeftInRows};
@@ -21,7 +21,7 @@ pub(crate) fn lowest_in_rows<C: Counting>(
     rows: Vec<Vec<Receiver<C>>>,
     lowest: Option<u32>,
 ) -> Option<u32>
-    requires { (row : Vec ReceivingEnd Global) (end : ReceivingEnd) (packet : Packet)
+    requires { (row : Vec ReceiverModel Global) (end : ReceiverModel) (packet : Packet)
         → Contains rows.items row → Contains row.items end → Contains end.left packet
         → AreItemsOn bound.now.split.grid packet }
     ensures { IsLeastBeside (IsLeftInRows (sum_of (parts_of bound.now)) rows.items)
@@ -40,7 +40,7 @@ fn lowest_in_row<C: Counting>(
     row: Vec<Receiver<C>>,
     lowest: Option<u32>,
 ) -> Option<u32>
-    requires { (end : ReceivingEnd) (packet : Packet)
+    requires { (end : ReceiverModel) (packet : Packet)
         → Contains row.items end → Contains end.left packet
         → AreItemsOn bound.now.split.grid packet }
     ensures { IsLeastBeside (IsLeftInRow (sum_of (parts_of bound.now)) row.items) lowest result }

@@ -5,8 +5,8 @@ ghost use Rattle.outcomes.specs.Outcomes.{Task};
 ghost use Rattle.search_lists.specs.Orders.{Guide};
 ghost use Rattle.world_model.specs.declared.limits.TheConstants.{WORKER_LIMIT};
 ghost use Rattle.world_model.specs.Worlds.{WorldState};
-ghost use Rattle.world_ends.specs.Parts.{states_of, AreGuided};
-ghost use Rattle.hda_run.specs.Problems.{Problem};
+ghost use Rattle.world_ends.specs.Parts.{states_of, AreWorkersGuided};
+ghost use Rattle.hda_run.specs.Jobs.{JobModel};
 ghost use Rattle.thread_joins.specs.Threads.{IsJoint};
 ghost use Rattle.thread_joins.specs.Worlds.{IsWorldOf};
 
@@ -30,8 +30,8 @@ pub(crate) fn join_world<S: Spread, C: Tokens>(
 ) -> Result<Joined<C>, OutOfMemory>
     requires some { 0 < C.workers }
     requires few { C.workers ≤ WORKER_LIMIT }
-    requires joint { (p : Problem) × (owners : S) × IsJoint p owners C.workers sealed.items }
-    ensures world { IfOk result (λ joined. (p : Problem) (owners : S)
+    requires joint { (p : JobModel) × (owners : S) × IsJoint p owners C.workers sealed.items }
+    ensures world { IfOk result (λ joined. (p : JobModel) (owners : S)
         → IsJoint p owners C.workers sealed.entry.items
         → (w : WorldState) × IsWorldOf S.owner_of p owners C.workers book.old
         joined.workers.items joined.ins.items w) }
@@ -55,8 +55,8 @@ fn audit_all<C: Tokens>(book: &mut Book<C>, workers: &mut [Worker<C>])
     ensures bound { All (λ worker. worker.purse ≤ book.old.credit) (states_of workers.old) }
     ensures book { book.new ≡ book.old }
     ensures same { states_of workers.new ≡ states_of workers.old }
-    ensures guided { (task : Task) (guide : Guide) → AreGuided task guide workers.old
-        → AreGuided task guide workers.new }
+    ensures guided { (task : Task) (guide : Guide) → AreWorkersGuided task guide workers.old
+        → AreWorkersGuided task guide workers.new }
 {
     'workers: for i in 0..workers.len() {
         workers[i].audit(book);

@@ -5,7 +5,7 @@ use Rattle.std.proofs.lemmas.Option.{slice_get_within, slice_get-map, get_or_fro
 use Rattle.std.proofs.lemmas.List.{length-map, length-replicate, length-set}
 use Rattle.std.proofs.lemmas.List.Elements.{Contains-append_left, Contains-append_right, Contains-append_cases}
 use Rattle.std.proofs.lemmas.Bool.{cases_eq}
-use Rattle.board.specs.Positions.{Position}
+use Rattle.board.specs.Boards.{BoardModel}
 use Rattle.board.specs.declared.moves.Move.{Move}
 use Rattle.board.specs.Moves.{Moves}
 use Rattle.board.specs.Neighbours.{opposite}
@@ -45,7 +45,7 @@ module _ (shared : Shared) (parts : List PartState) (lanes : List (List Lane)) (
   first_role = let first = get_below parts 0 (omega (arith, are.some)) in are.roles 0 first.0 first.1
 
   -- the part of a board's owner
-  pub owner_part : (b : Position) → (part : PartState) × (slice_get parts (shared.owner b) ≡ Some part)
+  pub owner_part : (b : BoardModel) → (part : PartState) × (slice_get parts (shared.owner b) ≡ Some part)
   owner_part b = get_below parts (shared.owner b) (first_role.owners b)
 
   -- the part of a worker
@@ -154,31 +154,31 @@ module _ (shared : Shared) (parts : List PartState) (lanes : List (List Lane)) (
 -- ---- joined parts are a sound world
 
 -- what covers an item's board covers it at a greater cost too
-covered_at : (w : WorldState) (item : Item) (b : Position) (cost : ℕ) → item.board ≡ b → item.cost ≤ cost → IsCovered w item.board item.cost → IsCovered w b cost
-covered_at w item b cost same le (inl has) = subst (λ (x : Position). IsCovered w x cost) same (inl (has.0, has.1, omega (arith, has.2, le)))
+covered_at : (w : WorldState) (item : Item) (b : BoardModel) (cost : ℕ) → item.board ≡ b → item.cost ≤ cost → IsCovered w item.board item.cost → IsCovered w b cost
+covered_at w item b cost same le (inl has) = subst (λ (x : BoardModel). IsCovered w x cost) same (inl (has.0, has.1, omega (arith, has.2, le)))
 covered_at w item b cost same le (inr has) = inr (has.0, has.1, has.2, has.3 ∙ same, omega (arith, has.4, le))
 
 module _ (shared : Shared) (parts : List PartState) (book : BookState) (lanes : List (List Lane)) (are : AreParts shared parts lanes) where
   -- what a part's worker knows is known to the board's owner
-  knows_in : (i : ℕ) (part : PartState) → slice_get parts i ≡ Some part → (b : Position) (known : Known) → IsTaskBoard shared.task b → KnowsAs part.worker b known → Knows (world_with shared parts book lanes) (shared.owner b) b known
+  knows_in : (i : ℕ) (part : PartState) → slice_get parts i ≡ Some part → (b : BoardModel) (known : Known) → IsTaskBoard shared.task b → KnowsAs part.worker b known → Knows (world_with shared parts book lanes) (shared.owner b) b known
   knows_in i part at b known board knows =
       let own = known_owned (length parts) (role_in shared i) part.worker (first_role shared parts lanes are).task (part_shaped shared parts lanes are i part at) b known board knows in
       record { worker = part.worker; is = ap (slice_get (workers_of parts)) own.0 ∙ worker_of shared parts lanes are i part at; board = board; knows = knows }
 
-  covered_in : (i : ℕ) (part : PartState) → slice_get parts i ≡ Some part → (b : Position) (cost : ℕ) → IsTaskBoard shared.task b → KnowsAtMost part.worker b cost → IsCovered (world_with shared parts book lanes) b cost
+  covered_in : (i : ℕ) (part : PartState) → slice_get parts i ≡ Some part → (b : BoardModel) (cost : ℕ) → IsTaskBoard shared.task b → KnowsAtMost part.worker b cost → IsCovered (world_with shared parts book lanes) b cost
   covered_in i part at b cost board has = inl (has.0, knows_in i part at b has.0 board has.1, has.2)
 
   -- what is made by a part, sent by one or has come to one was reached
-  made_reached : (i : ℕ) (part : PartState) → slice_get parts i ≡ Some part → (b : Position) (cost : ℕ) (via : Move) → IsMade (role_in shared i) part.worker b cost via → HasPredecessor (world_with shared parts book lanes) b cost via
+  made_reached : (i : ℕ) (part : PartState) → slice_get parts i ≡ Some part → (b : BoardModel) (cost : ℕ) (via : Move) → IsMade (role_in shared i) part.worker b cost via → HasPredecessor (world_with shared parts book lanes) b cost via
   made_reached i part at b cost via (inl start) = inl start
   made_reached i part at b cost via (inr has) = inr (has.0, has.1, has.2, has.4, knows_in i part at has.0 has.2 has.3 has.5, has.6)
 
   sent_reached : (to : ℕ) (item : Item) → IsSentTo parts to item → HasPredecessor (world_with shared parts book lanes) item.board item.cost item.via
   sent_reached to item has = made_reached has.0 has.1 has.2 item.board item.cost item.via ((are.keep has.0 has.1 has.2).made to item (inr has.3))
 
-  origin_reached : (i : ℕ) (part : PartState) → slice_get parts i ≡ Some part → (b : Position) (cost : ℕ) (via : Move) → HasOrigin (role_in shared i) part b cost via → HasPredecessor (world_with shared parts book lanes) b cost via
+  origin_reached : (i : ℕ) (part : PartState) → slice_get parts i ≡ Some part → (b : BoardModel) (cost : ℕ) (via : Move) → HasOrigin (role_in shared i) part b cost via → HasPredecessor (world_with shared parts book lanes) b cost via
   origin_reached i part at b cost via (inl made) = made_reached i part at b cost via made
-  origin_reached i part at b cost via (inr has) = subst (λ (x : Position × ℕ × Move). HasPredecessor (world_with shared parts book lanes) x.0 x.1 x.2) (λ t. (has.2 t, has.3 t, has.4 t)) (sent_reached i has.0 (came_from shared parts lanes are i part at has.0 has.1))
+  origin_reached i part at b cost via (inr has) = subst (λ (x : BoardModel × ℕ × Move). HasPredecessor (world_with shared parts book lanes) x.0 x.1 x.2) (λ t. (has.2 t, has.3 t, has.4 t)) (sent_reached i has.0 (came_from shared parts lanes are i part at has.0 has.1))
 
   item_reached : (to : ℕ) (item : Item) → IsUnderWay (world_with shared parts book lanes) to item → HasPredecessor (world_with shared parts book lanes) item.board item.cost item.via
   item_reached to item (inl has) =
@@ -215,35 +215,35 @@ module _ (shared : Shared) (parts : List PartState) (book : BookState) (lanes : 
       (sent_came shared parts lanes are i to part owner.0 at owner.1 has.0 has.1 has.2 has.3)
 
   -- what is seen to is covered
-  passed_covered : (i : ℕ) (part : PartState) → slice_get parts i ≡ Some part → (b : Position) (cost : ℕ) → IsPassedOn (role_in shared i) part b cost → IsCovered (world_with shared parts book lanes) b cost
+  passed_covered : (i : ℕ) (part : PartState) → slice_get parts i ≡ Some part → (b : BoardModel) (cost : ℕ) → IsPassedOn (role_in shared i) part b cost → IsCovered (world_with shared parts book lanes) b cost
   passed_covered i part at b cost (item, inl unsent, same, le) = inr (shared.owner b, item, inr (inl (i, part.worker, unsent.0, worker_of shared parts lanes are i part at, unsent.1, unsent.2)), same, le)
-  passed_covered i part at b cost (item, inr sent, same, le) = covered_at (world_with shared parts book lanes) item b cost same le (sent_covered i part at item (subst (λ (x : Position). WasSent part (shared.owner x) item) (sym same) sent))
+  passed_covered i part at b cost (item, inr sent, same, le) = covered_at (world_with shared parts book lanes) item b cost same le (sent_covered i part at item (subst (λ (x : BoardModel). WasSent part (shared.owner x) item) (sym same) sent))
 
-  seen_covered : (i : ℕ) (part : PartState) → slice_get parts i ≡ Some part → (b : Position) (cost : ℕ) → IsTaskBoard shared.task b → IsSeenTo (role_in shared i) part b cost → IsCovered (world_with shared parts book lanes) b cost
+  seen_covered : (i : ℕ) (part : PartState) → slice_get parts i ≡ Some part → (b : BoardModel) (cost : ℕ) → IsTaskBoard shared.task b → IsSeenTo (role_in shared i) part b cost → IsCovered (world_with shared parts book lanes) b cost
   seen_covered i part at b cost board (inl own) = covered_in i part at b cost board own.1
   seen_covered i part at b cost board (inr passed) = passed_covered i part at b cost passed
 
   -- the board before an item that was sent is known to the sender
-  before_covered : (to : ℕ) (item : Item) (b' : Position) (c : ℕ) → IsTaskBoard shared.task item.board → 0 < item.cost → Moves shared.task.rule item.board (opposite item.via) b' c → IsSentTo parts to item → IsCovered (world_with shared parts book lanes) b' (item.cost + c)
+  before_covered : (to : ℕ) (item : Item) (b' : BoardModel) (c : ℕ) → IsTaskBoard shared.task item.board → 0 < item.cost → Moves shared.task.rule item.board (opposite item.via) b' c → IsSentTo parts to item → IsCovered (world_with shared parts book lanes) b' (item.cost + c)
   before_covered to item b' c board later moves (i, part, at, sent) =
       ⊎_elim
       (λ (start : (item.board ≡ shared.task.start) × (item.cost ≡ 0)). absurd (omega (arith, later, start.1)))
       (λ (knows : KnowsBefore (role_in shared i) part.worker item.board item.cost item.via).
       let there = led_back shared.task.rule item.board item.via knows.0 knows.1 b' c knows.3.0 board.0 knows.4 moves in
-      subst (λ (x : Position). IsCovered (world_with shared parts book lanes) x (item.cost + c)) there
+      subst (λ (x : BoardModel). IsCovered (world_with shared parts book lanes) x (item.cost + c)) there
       (covered_in i part at knows.0 (item.cost + c) knows.3 (knows.2, knows.5, omega (arith, knows.6))))
       ((are.keep i part at).made to item (inr sent))
 
   -- so what a move leads back to is covered
-  back_covered : (i : ℕ) (part : PartState) → slice_get parts i ≡ Some part → (b : Position) (known : Known) (m : Move) (b' : Position) (c : ℕ) → IsTaskBoard shared.task b → Moves shared.task.rule b m b' c → LeadsBack part b known m → IsCovered (world_with shared parts book lanes) b' (known.cost + c)
+  back_covered : (i : ℕ) (part : PartState) → slice_get parts i ≡ Some part → (b : BoardModel) (known : Known) (m : Move) (b' : BoardModel) (c : ℕ) → IsTaskBoard shared.task b → Moves shared.task.rule b m b' c → LeadsBack part b known m → IsCovered (world_with shared parts book lanes) b' (known.cost + c)
   back_covered i part at b known m b' c board moves (later, back, (item, come, is, cost, via)) =
       subst (λ (k : ℕ). IsCovered (world_with shared parts book lanes) b' (k + c)) cost
       (before_covered i item b' c (subst (IsTaskBoard shared.task) (sym is) board) (omega (arith, later, cost))
-      (subst (λ (x : Position × Move). Moves shared.task.rule x.0 x.1 b' c) (λ t. (sym is t, (back ∙ ap opposite (sym via)) t)) moves)
+      (subst (λ (x : BoardModel × Move). Moves shared.task.rule x.0 x.1 b' c) (λ t. (sym is t, (back ∙ ap opposite (sym via)) t)) moves)
       (came_from shared parts lanes are i part at item come))
 
   -- what is known in the world is known in the part
-  known_by : (i : ℕ) (b : Position) (known : Known) → Knows (world_with shared parts book lanes) i b known → (part : PartState) × (slice_get parts i ≡ Some part) × KnowsAs part.worker b known
+  known_by : (i : ℕ) (b : BoardModel) (known : Known) → Knows (world_with shared parts book lanes) i b known → (part : PartState) × (slice_get parts i ≡ Some part) × KnowsAs part.worker b known
   known_by i b known knows =
       let part = part_of shared parts lanes are i knows.worker knows.is in
       (part.0, part.1, subst (λ (x : WorkerState). KnowsAs x b known) (sym part.2) knows.knows)
@@ -254,7 +254,7 @@ module _ (shared : Shared) (parts : List PartState) (book : BookState) (lanes : 
       let part = owner_part shared parts lanes are shared.task.start in
       covered_in (shared.owner shared.task.start) part.0 part.1 shared.task.start 0 (task.start, task.sides) ((are.keep (shared.owner shared.task.start) part.0 part.1).start refl)
 
-  successors_covered : (i : ℕ) (b : Position) (known : Known) → Knows (world_with shared parts book lanes) i b known → known.expanded ≡ true → (m : Move) (b' : Position) (c : ℕ) → Moves shared.task.rule b m b' c → IsCovered (world_with shared parts book lanes) b' (known.cost + c)
+  successors_covered : (i : ℕ) (b : BoardModel) (known : Known) → Knows (world_with shared parts book lanes) i b known → known.expanded ≡ true → (m : Move) (b' : BoardModel) (c : ℕ) → Moves shared.task.rule b m b' c → IsCovered (world_with shared parts book lanes) b' (known.cost + c)
   successors_covered i b known knows closed m b' c moves =
       let has = known_by i b known knows in
       ⊎_elim

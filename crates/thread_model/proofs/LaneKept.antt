@@ -7,7 +7,7 @@ use Rattle.std.proofs.lemmas.List.{length-replicate, length-set}
 use Rattle.std.proofs.lemmas.List.Elements.{All-replicate, Contains-append_left, Contains-push, Contains-push_cases}
 use Rattle.std.specs.Prelude.{Contains, slice_get, slice_set, unwrap_or, All}
 use Rattle.board.specs.declared.moves.Move.{Move}
-use Rattle.board.specs.Positions.{Position}
+use Rattle.board.specs.Boards.{BoardModel}
 use Rattle.search_keys.specs.SearchKeys.{search_key}
 use Rattle.outcomes.specs.Outcomes.{Task}
 use Rattle.world_model.specs.declared.parts.Item.{Item}
@@ -62,7 +62,7 @@ module _ (n : ℕ) (role : Role) (is : IsRole n role) where
         unsent = λ to packet at. subst (IsPacketFor role.task role.owner to) (sym (at_replicate n to [] packet at)) (no_items to);
       }
 
-      known_start : (b : Position) (known : Known) → IsTaskBoard role.task b → KnowsAs beginner b known → (b ≡ role.task.start) × (known.cost ≡ 0)
+      known_start : (b : BoardModel) (known : Known) → IsTaskBoard role.task b → KnowsAs beginner b known → (b ≡ role.task.start) × (known.cost ≡ 0)
       known_start b known board knows = let h = only (search_key b) known knows in (same_search_key role.task b role.task.start board start_board h.0, h.2)
 
       opening_keeps : (role.owner role.task.start ≡ role.me → KnowsAtMost beginner role.task.start 0) → (purse ≡ 0 → IsIdle role.task beginner (limit_of None) None) → Keeps n role (opening_part n beginner)
@@ -203,12 +203,12 @@ module _ (n to : ℕ) (role : Role) (part : PartState) (below : to < n) (keeps :
       (cases_eq t to)
 
   -- so what was seen to still is
-  seen_stays : (b : Position) (cost : ℕ) → IsSeenTo role part b cost → IsSeenTo role sender b cost
+  seen_stays : (b : BoardModel) (cost : ℕ) → IsSeenTo role part b cost → IsSeenTo role sender b cost
   seen_stays b cost (inl own) = inl own
   seen_stays b cost (inr (item, inl unsent, same, low)) = inr (item, unsent_stays (role.owner b) item unsent, same, low)
   seen_stays b cost (inr (item, inr went, same, low)) = inr (item, inr (among_before part.sent to to_inside packet (role.owner b) item went), same, low)
 
-  successor_stays : (b' : Position) (cost : ℕ) (b : Position) (known : Known) (m : Move) → IsSeenTo role part b' cost ⊎ LeadsBack part b known m → IsSeenTo role sender b' cost ⊎ LeadsBack sender b known m
+  successor_stays : (b' : BoardModel) (cost : ℕ) (b : BoardModel) (known : Known) (m : Move) → IsSeenTo role part b' cost ⊎ LeadsBack part b known m → IsSeenTo role sender b' cost ⊎ LeadsBack sender b known m
   successor_stays b' cost b known m (inl seen) = inl (seen_stays b' cost seen)
   successor_stays b' cost b known m (inr back) = inr back
 
@@ -260,14 +260,14 @@ module _ (n from : ℕ) (role : Role) (part : PartState) (below : from < n) (kee
       (λ (new : (has.0 ≡ from) × Contains packet item). inr new.1)
       (among_cases part.received from from_inside packet has.0 item has.1)
 
-  came_stays : (b : Position) (cost : ℕ) (via : Move) → CameAs part b cost via → CameAs receiver b cost via
+  came_stays : (b : BoardModel) (cost : ℕ) (via : Move) → CameAs part b cost via → CameAs receiver b cost via
   came_stays b cost via (item, came, board, same, last) = (item, come_stays item came, board, same, last)
 
-  origin_stays : (b : Position) (cost : ℕ) (via : Move) → HasOrigin role part b cost via → HasOrigin role receiver b cost via
+  origin_stays : (b : BoardModel) (cost : ℕ) (via : Move) → HasOrigin role part b cost via → HasOrigin role receiver b cost via
   origin_stays b cost via (inl made) = inl made
   origin_stays b cost via (inr came) = inr (came_stays b cost via came)
 
-  successor_left : (b' : Position) (cost : ℕ) (b : Position) (known : Known) (m : Move) → IsSeenTo role part b' cost ⊎ LeadsBack part b known m → IsSeenTo role receiver b' cost ⊎ LeadsBack receiver b known m
+  successor_left : (b' : BoardModel) (cost : ℕ) (b : BoardModel) (known : Known) (m : Move) → IsSeenTo role part b' cost ⊎ LeadsBack part b known m → IsSeenTo role receiver b' cost ⊎ LeadsBack receiver b known m
   successor_left b' cost b known m (inl seen) = inl seen
   successor_left b' cost b known m (inr (later, back, came)) = inr (later, back, came_stays b known.cost known.via came)
 

@@ -6,10 +6,10 @@ use Rattle.std.specs.FinMap as map
 use Rattle.std.proofs.lemmas.List.{length-append}
 use Rattle.std.proofs.lemmas.List.Elements.{Contains-push, Contains-push_cases, Contains-append_left}
 use Rattle.board.specs.declared.moves.Move.{Move}
-use Rattle.board.specs.CostRules.{CostRule}
+use Rattle.board.specs.Weights.{WeightsModel}
 use Rattle.board.specs.Moves.{Moves}
 use Rattle.board.specs.Neighbours.{opposite}
-use Rattle.board.specs.Positions.{IsBoard, Position}
+use Rattle.board.specs.Boards.{IsBoard, BoardModel}
 use Rattle.board.proofs.MoveLemmas.{taken_back}
 use Rattle.board.proofs.NeighbourLemmas.{successor_moves}
 use Rattle.search_keys.specs.SearchKeys.{search_key}
@@ -36,50 +36,50 @@ use Rattle.thread_model.specs.Laws.{ExpandingIsKept, SettlingIsKept, DroppingIsK
 -- ---- which changes of a part's worker alone keep what the part keeps
 
 -- a move back leads to the board before
-pub led_back : (rule : CostRule) (b : Position) (via : Move) (before : Position) (cost : ℕ) (b' : Position) (c : ℕ) → IsBoard before → IsBoard b → Moves rule before via b cost → Moves rule b (opposite via) b' c → before ≡ b'
+pub led_back : (rule : WeightsModel) (b : BoardModel) (via : Move) (before : BoardModel) (cost : ℕ) (b' : BoardModel) (c : ℕ) → IsBoard before → IsBoard b → Moves rule before via b cost → Moves rule b (opposite via) b' c → before ≡ b'
 led_back rule b via before cost b' c board board' moves back =
     let there : Some (before, cost) ≡ Some (b', c) = sym ((successor_moves rule b (opposite via) before cost board').1 (taken_back rule before via b cost board moves)) ∙ (successor_moves rule b (opposite via) b' c board').1 back in
     let same : (before, cost) ≡ (b', c) = cc in
-    ap (λ (x : Position × ℕ). x.0) same
+    ap (λ (x : BoardModel × ℕ). x.0) same
 
 -- nothing is forgotten: what is known is known as cheaply, and what is unsent still is
 pub record Remembers (old new : WorkerState) : Type 0 where
-  pub lower : (b : Position) (known : Known) → KnowsAs old b known → KnowsAtMost new b known.cost
+  pub lower : (b : BoardModel) (known : Known) → KnowsAs old b known → KnowsAtMost new b known.cost
   pub unsent : (to : ℕ) (item : Item) → HasUnsent old to item → HasUnsent new to item
 
 -- a board that is known so has its origin; where it is closed, it is not the goal, and its successors are seen to, but for one to which a move leads back
-pub record IsFounded (role : Role) (part : PartState) (b : Position) (known : Known) : Type 0 where
+pub record IsFounded (role : Role) (part : PartState) (b : BoardModel) (known : Known) : Type 0 where
   pub origin : HasOrigin role part b known.cost known.via
-  pub closed : known.expanded ≡ true → (b ≢ role.task.goal) × ((m : Move) (b' : Position) (c : ℕ) → Moves role.task.rule b m b' c → IsSeenTo role part b' (known.cost + c) ⊎ LeadsBack part b known m)
+  pub closed : known.expanded ≡ true → (b ≢ role.task.goal) × ((m : Move) (b' : BoardModel) (c : ℕ) → Moves role.task.rule b m b' c → IsSeenTo role part b' (known.cost + c) ⊎ LeadsBack part b known m)
 
 -- what is new is well founded, and what is held no longer is known where it is the worker's own
 pub record AddsWell (n : ℕ) (role : Role) (part : PartState) (worker : WorkerState) : Type 0 where
   pub shaped : IsShapedWorker n role (record worker { held = [] })
   pub few_held : length worker.held ≤ PACKET_LIMIT
-  pub known : (b : Position) (known : Known) → IsTaskBoard role.task b → KnowsAs worker b known → KnowsAs part.worker b known ⊎ IsFounded role (with_worker part worker) b known
+  pub known : (b : BoardModel) (known : Known) → IsTaskBoard role.task b → KnowsAs worker b known → KnowsAs part.worker b known ⊎ IsFounded role (with_worker part worker) b known
   pub items : (to : ℕ) (item : Item) → HasUnsent worker to item → HasUnsent part.worker to item ⊎ IsMade role worker item.board item.cost item.via
   pub held : (item : Item) → Contains worker.held item → Contains part.worker.held item
   pub settled : (item : Item) → Contains part.worker.held item → IsItemFor role.task role.owner role.me item → KnowsAtMost worker item.board item.cost ⊎ Contains worker.held item
   pub resting : worker.purse ≡ 0 → IsIdle role.task worker (limit_of worker.best) worker.best
 
 module _ (role : Role) (part : PartState) (worker : WorkerState) (remembers : Remembers part.worker worker) where
-  at_most_kept : (b : Position) (cost : ℕ) → KnowsAtMost part.worker b cost → KnowsAtMost worker b cost
+  at_most_kept : (b : BoardModel) (cost : ℕ) → KnowsAtMost part.worker b cost → KnowsAtMost worker b cost
   at_most_kept b cost has = let now = remembers.lower b has.0 has.1 in (now.0, now.1, omega (arith, now.2, has.2))
 
-  seen_to_kept : (b : Position) (cost : ℕ) → IsSeenTo role part b cost → IsSeenTo role (with_worker part worker) b cost
+  seen_to_kept : (b : BoardModel) (cost : ℕ) → IsSeenTo role part b cost → IsSeenTo role (with_worker part worker) b cost
   seen_to_kept b cost (inl own) = inl (own.0, at_most_kept b cost own.1)
   seen_to_kept b cost (inr (item, inl unsent, board, le)) = inr (item, inl (remembers.unsent (role.owner b) item unsent), board, le)
   seen_to_kept b cost (inr (item, inr sent, board, le)) = inr (item, inr sent, board, le)
 
-  successor_kept : (b' : Position) (cost : ℕ) (b : Position) (known : Known) (m : Move) → IsSeenTo role part b' cost ⊎ LeadsBack part b known m → IsSeenTo role (with_worker part worker) b' cost ⊎ LeadsBack (with_worker part worker) b known m
+  successor_kept : (b' : BoardModel) (cost : ℕ) (b : BoardModel) (known : Known) (m : Move) → IsSeenTo role part b' cost ⊎ LeadsBack part b known m → IsSeenTo role (with_worker part worker) b' cost ⊎ LeadsBack (with_worker part worker) b known m
   successor_kept b' cost b known m (inl seen) = inl (seen_to_kept b' cost seen)
   successor_kept b' cost b known m (inr back) = inr back
 
-  pub made_kept : (b : Position) (cost : ℕ) (via : Move) → IsMade role part.worker b cost via → IsMade role worker b cost via
+  pub made_kept : (b : BoardModel) (cost : ℕ) (via : Move) → IsMade role part.worker b cost via → IsMade role worker b cost via
   made_kept b cost via (inl start) = inl start
   made_kept b cost via (inr (before, c, known, board, moves, knows, le)) = let now = remembers.lower before known knows in inr (before, c, now.0, board, moves, now.1, omega (arith, now.2, le))
 
-  pub origin_kept : (b : Position) (cost : ℕ) (via : Move) → HasOrigin role part b cost via → HasOrigin role (with_worker part worker) b cost via
+  pub origin_kept : (b : BoardModel) (cost : ℕ) (via : Move) → HasOrigin role part b cost via → HasOrigin role (with_worker part worker) b cost via
   origin_kept b cost via (inl made) = inl (made_kept b cost via made)
   origin_kept b cost via (inr came) = inr came
 
@@ -127,7 +127,7 @@ module _ (role : Role) where
   all_empty_handed (first ∷ rest) x = ap (λ (y : WorkerState). fold (with_successor role) y rest) (one_empty_handed x first) ∙ all_empty_handed rest (with_successor role x first)
 
 -- the board is expanded by all moves but one, if any is left out, and then by the one back
-module _ (n : ℕ) (role : Role) (part : PartState) (is : IsRole n role) (keeps : Keeps n role part) (b : Position) (known : Known) (open_at : IsOpen role.task part.worker b known) (left_out : Option Move) (back : (m : Move) → left_out ≡ Some m → (0 < known.cost) × (m ≡ opposite known.via)) where
+module _ (n : ℕ) (role : Role) (part : PartState) (is : IsRole n role) (keeps : Keeps n role part) (b : BoardModel) (known : Known) (open_at : IsOpen role.task part.worker b known) (left_out : Option Move) (back : (m : Move) → left_out ≡ Some m → (0 < known.cost) × (m ≡ opposite known.via)) where
   done : WorkerState
   done = expansion_by (moves_but left_out) role part.worker b known
 
@@ -169,7 +169,7 @@ module _ (n : ℕ) (role : Role) (part : PartState) (is : IsRole n role) (keeps 
       (record known { expanded = true }, new.1, omega (arith, ap (λ (k : Known). k.cost) as_known)))
       (with_insert part.worker.known (search_key b) key (record known { expanded = true }))
 
-  lower : (x : Position) (old : Known) → KnowsAs part.worker x old → KnowsAtMost done x old.cost
+  lower : (x : BoardModel) (old : Known) → KnowsAs part.worker x old → KnowsAtMost done x old.cost
   unfolding done offers marked
   lower x old knows =
       let mid = marked_lower (search_key x) old knows in
@@ -189,16 +189,16 @@ module _ (n : ℕ) (role : Role) (part : PartState) (is : IsRole n role) (keeps 
       (cases_eq (role.owner offer.board) role.me)
 
   -- and so is what the move back leads to, where the worker knows the board before
-  before_seen_to : KnowsBefore role part.worker b known.cost known.via → (b' : Position) (c : ℕ) → Moves role.task.rule b (opposite known.via) b' c → IsSeenTo role (with_worker part done) b' (known.cost + c)
+  before_seen_to : KnowsBefore role part.worker b known.cost known.via → (b' : BoardModel) (c : ℕ) → Moves role.task.rule b (opposite known.via) b' c → IsSeenTo role (with_worker part done) b' (known.cost + c)
   before_seen_to (before, cost, first, board, there, knows, low) b' c leads =
       let own = known_owned n role (empty_handed part.worker) is.task keeps.shaped before first board knows in
       let now = lower before first knows in
-      subst (λ (x : Position). IsSeenTo role (with_worker part done) x (known.cost + c))
+      subst (λ (x : BoardModel). IsSeenTo role (with_worker part done) x (known.cost + c))
       (led_back role.task.rule b known.via before cost b' c board.0 open_at.board.0 there leads)
       (inl (own.0, (now.0, now.1, omega (arith, now.2, low))))
 
   -- the move that is left out leads to what is seen to, or back to where the board came from
-  left_out_seen_to : (m : Move) (b' : Position) (c : ℕ) → Moves role.task.rule b m b' c → left_out ≡ Some m → IsSeenTo role (with_worker part done) b' (known.cost + c) ⊎ LeadsBack (with_worker part done) b known m
+  left_out_seen_to : (m : Move) (b' : BoardModel) (c : ℕ) → Moves role.task.rule b m b' c → left_out ≡ Some m → IsSeenTo role (with_worker part done) b' (known.cost + c) ⊎ LeadsBack (with_worker part done) b known m
   left_out_seen_to m b' c leads out = by_origin (keeps.origins b known open_at.board open_at.knows)
     where
       by_origin : HasOrigin role part b known.cost known.via → IsSeenTo role (with_worker part done) b' (known.cost + c) ⊎ LeadsBack (with_worker part done) b known m
@@ -207,7 +207,7 @@ module _ (n : ℕ) (role : Role) (part : PartState) (is : IsRole n role) (keeps 
       by_origin (inr came) = inr ((back m out).0, (back m out).1, came)
 
   -- so each successor is seen to, but for one to which a move leads back
-  successor_seen_to : (m : Move) (b' : Position) (c : ℕ) → Moves role.task.rule b m b' c → IsSeenTo role (with_worker part done) b' (known.cost + c) ⊎ LeadsBack (with_worker part done) b known m
+  successor_seen_to : (m : Move) (b' : BoardModel) (c : ℕ) → Moves role.task.rule b m b' c → IsSeenTo role (with_worker part done) b' (known.cost + c) ⊎ LeadsBack (with_worker part done) b known m
   unfolding offers
   successor_seen_to m b' c leads =
       ⊎_elim
@@ -250,16 +250,16 @@ module _ (n : ℕ) (role : Role) (part : PartState) (is : IsRole n role) (keeps 
   offer_founded : (offer : Item) → Among offers offer → IsFounded role (with_worker part done) offer.board (entry offer)
   offer_founded offer among = record { origin = inl (offer_made offer among); closed = λ closed. absurd (true≢false (sym closed)) }
 
-  new_founded : (x : Position) (now : Known) → IsTaskBoard role.task x → IsNew (search_key x) now → IsFounded role (with_worker part done) x now
+  new_founded : (x : BoardModel) (now : Known) → IsTaskBoard role.task x → IsNew (search_key x) now → IsFounded role (with_worker part done) x now
   unfolding IsNew
   new_founded x now board (inl (same, new)) =
       let here = same_search_key role.task x b board open_at.board same in
-      subst (λ (y : Position × Known). IsFounded role (with_worker part done) y.0 y.1) (λ t. (sym here t, sym new t)) board_founded
+      subst (λ (y : BoardModel × Known). IsFounded role (with_worker part done) y.0 y.1) (λ t. (sym here t, sym new t)) board_founded
   new_founded x now board (inr (offer, among, same, new)) =
       let here = same_search_key role.task x offer.board board (board_of offer among) same in
-      subst (λ (y : Position × Known). IsFounded role (with_worker part done) y.0 y.1) (λ t. (sym here t, sym new t)) (offer_founded offer among)
+      subst (λ (y : BoardModel × Known). IsFounded role (with_worker part done) y.0 y.1) (λ t. (sym here t, sym new t)) (offer_founded offer among)
 
-  founded : (x : Position) (now : Known) → IsTaskBoard role.task x → KnowsAs done x now → KnowsAs part.worker x now ⊎ IsFounded role (with_worker part done) x now
+  founded : (x : BoardModel) (now : Known) → IsTaskBoard role.task x → KnowsAs done x now → KnowsAs part.worker x now ⊎ IsFounded role (with_worker part done) x now
   founded x now board knows = ⊎_elim (λ old. inl old) (λ (new : IsNew (search_key x) now). inr (new_founded x now board new)) (done_before (search_key x) now knows)
 
   items : (to : ℕ) (item : Item) → HasUnsent done to item → HasUnsent part.worker to item ⊎ IsMade role done item.board item.cost item.via
@@ -356,7 +356,7 @@ module _ (n : ℕ) (role : Role) (part : PartState) (is : IsRole n role) (keeps 
     unfolding settled
     shaped = shaped_settled n role (record part.worker { held = last ∷ [] }) (shaped_delivered n role (record part.worker { held = [] }) keeps.shaped (last ∷ []) part.worker.purse alone) [] last refl
 
-    settled_lower : (b : Position) (known : Known) → KnowsAs part.worker b known → KnowsAtMost settled b known.cost
+    settled_lower : (b : BoardModel) (known : Known) → KnowsAs part.worker b known → KnowsAtMost settled b known.cost
     unfolding settled
     settled_lower b known knows =
         ⊎_elim (λ same. (known, same ∙ knows, omega arith)) (λ new. (entry last, new.1, new.2 known knows))
@@ -365,7 +365,7 @@ module _ (n : ℕ) (role : Role) (part : PartState) (is : IsRole n role) (keeps 
     last_founded : IsFounded role (with_worker part settled) last.board (entry last)
     last_founded = record { origin = inr (last, keeps.held last last_held, refl, refl, refl); closed = λ closed. absurd (true≢false (sym closed)) }
 
-    settled_founded : (b : Position) (known : Known) → IsTaskBoard role.task b → KnowsAs settled b known → KnowsAs part.worker b known ⊎ IsFounded role (with_worker part settled) b known
+    settled_founded : (b : BoardModel) (known : Known) → IsTaskBoard role.task b → KnowsAs settled b known → KnowsAs part.worker b known ⊎ IsFounded role (with_worker part settled) b known
     unfolding settled
     settled_founded b known board knows =
         ⊎_elim (λ same. inl (sym same ∙ knows))
@@ -373,7 +373,7 @@ module _ (n : ℕ) (role : Role) (part : PartState) (is : IsRole n role) (keeps 
         let e : Some known ≡ Some (entry last) = sym knows ∙ new.1 in
         let as_last : known ≡ entry last = cc in
         let there = same_search_key role.task b last.board board mine.0 new.0 in
-        inr (subst (λ (x : Position × Known). IsFounded role (with_worker part settled) x.0 x.1) (λ t. (sym there t, sym as_last t)) last_founded))
+        inr (subst (λ (x : BoardModel × Known). IsFounded role (with_worker part settled) x.0 x.1) (λ t. (sym there t, sym as_last t)) last_founded))
         (lowered_by (map.get part.worker.known (search_key last.board)) part.worker.known last refl (search_key b))
 
     last_known : KnowsAtMost settled last.board last.cost

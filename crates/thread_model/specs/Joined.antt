@@ -1,7 +1,7 @@
 -- The parts of a run, joined.
 use Rattle.std.specs.Prelude.{◌≡◌, ℕ, ◌≤◌, List, ◌++◌, length, map, Some, slice_get}
 use Rattle.board.specs.declared.moves.Move.{Move}
-use Rattle.board.specs.Positions.{Position}
+use Rattle.board.specs.Boards.{BoardModel}
 use Rattle.outcomes.specs.Outcomes.{Task}
 use Rattle.world_model.specs.declared.limits.TheConstants.{LANE_LIMIT}
 use Rattle.world_model.specs.Books.{BookState}
@@ -22,7 +22,7 @@ IsAt lanes from to lane = (row : List Lane) × (slice_get lanes from ≡ Some ro
 -- a task, and who owns which board
 pub record Shared : Type 0 where
   pub task : Task
-  pub owner : Position → ℕ
+  pub owner : BoardModel → ℕ
 
 -- the role of worker i
 abbrev pub role_in : Shared → ℕ → Role

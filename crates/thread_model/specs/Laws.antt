@@ -1,7 +1,7 @@
 -- The laws of parts.
 use Rattle.std.specs.Prelude.{◌≡◌, ◌≢◌, ◌⊎◌, ℕ, ◌+◌, ◌≤◌, ◌<◌, List, length, All, Option, Some, slice_get, slice_set}
 use Rattle.board.specs.declared.moves.Move.{Move}
-use Rattle.board.specs.Positions.{Position}
+use Rattle.board.specs.Boards.{BoardModel}
 use Rattle.world_model.specs.declared.steps.Refusal.{Refusal}
 use Rattle.world_model.specs.declared.steps.Step.{Step}
 use Rattle.world_model.specs.Turns.{Turn, turn}
@@ -93,7 +93,7 @@ JoinedPartsAreQuiet =
     → AreParts shared parts lanes
     → All (λ part. part.worker.purse ≡ 0) parts
     → packet_count (world_with shared parts book lanes) ≡ 0
-    → ((b : Position) (cost : ℕ) → IsInFrontier (world_with shared parts book lanes) b cost → limit_of book.best ≤ cost + shared.task.sum b)
+    → ((b : BoardModel) (cost : ℕ) → IsInFrontier (world_with shared parts book lanes) b cost → limit_of book.best ≤ cost + shared.task.sum b)
     → IsReached (world_with shared parts book lanes) book.best
     → IsQuiet (world_with shared parts book lanes)
 

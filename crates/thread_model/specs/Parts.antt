@@ -1,7 +1,7 @@
 -- What a thread has of a run: a worker, and what went out and came in at its ends of the lanes.
 use Rattle.std.specs.Prelude.{◌≡◌, ◌⊎◌, ℕ, ◌+◌, ◌≤◌, ◌<◌, true, false, List, [], length, Contains, Some, slice_get}
 use Rattle.board.specs.declared.moves.Move.{Move}
-use Rattle.board.specs.Positions.{Position}
+use Rattle.board.specs.Boards.{BoardModel}
 use Rattle.board.specs.Moves.{Moves}
 use Rattle.board.specs.Neighbours.{opposite}
 use Rattle.world_model.specs.declared.limits.TheConstants.{WORKER_LIMIT, PACKET_LIMIT}
@@ -34,37 +34,37 @@ abbrev pub HasUnsent : WorkerState → ℕ → Item → Type 0
 HasUnsent worker to item = (packet : Packet) × (slice_get worker.unsent to ≡ Some packet) × Contains packet item
 
 -- the worker knows the board at no more than this cost
-abbrev pub KnowsAtMost : WorkerState → Position → ℕ → Type 0
+abbrev pub KnowsAtMost : WorkerState → BoardModel → ℕ → Type 0
 KnowsAtMost worker b cost = (known : Known) × KnowsAs worker b known × (known.cost ≤ cost)
 
 -- an item of the board at no more than this cost is unsent for its owner, or was sent to it
-abbrev pub IsPassedOn : Role → PartState → Position → ℕ → Type 0
+abbrev pub IsPassedOn : Role → PartState → BoardModel → ℕ → Type 0
 IsPassedOn role part b cost =
     (item : Item) × (HasUnsent part.worker (role.owner b) item ⊎ WasSent part (role.owner b) item) × (item.board ≡ b) × (item.cost ≤ cost)
 
 -- the board at this cost is seen to: the worker is its owner and knows it at no more, or it is passed on
-abbrev pub IsSeenTo : Role → PartState → Position → ℕ → Type 0
+abbrev pub IsSeenTo : Role → PartState → BoardModel → ℕ → Type 0
 IsSeenTo role part b cost = ((role.owner b ≡ role.me) × KnowsAtMost part.worker b cost) ⊎ IsPassedOn role part b cost
 
 -- the worker knows the board before this one by its last move, cheaper by the move's cost at least
-abbrev pub KnowsBefore : Role → WorkerState → Position → ℕ → Move → Type 0
+abbrev pub KnowsBefore : Role → WorkerState → BoardModel → ℕ → Move → Type 0
 KnowsBefore role worker b cost via =
-    (before : Position) × (c : ℕ) × (known : Known) × IsTaskBoard role.task before × Moves role.task.rule before via b c × KnowsAs worker before known × (known.cost + c ≤ cost)
+    (before : BoardModel) × (c : ℕ) × (known : Known) × IsTaskBoard role.task before × Moves role.task.rule before via b c × KnowsAs worker before known × (known.cost + c ≤ cost)
 
 -- the board at this cost is the start at 0, or the worker knows the one before it by its last move
-abbrev pub IsMade : Role → WorkerState → Position → ℕ → Move → Type 0
+abbrev pub IsMade : Role → WorkerState → BoardModel → ℕ → Move → Type 0
 IsMade role worker b cost via = ((b ≡ role.task.start) × (cost ≡ 0)) ⊎ KnowsBefore role worker b cost via
 
 -- the board came at this cost by this last move, as an item
-abbrev pub CameAs : PartState → Position → ℕ → Move → Type 0
+abbrev pub CameAs : PartState → BoardModel → ℕ → Move → Type 0
 CameAs part b cost via = (item : Item) × HasCome part item × (item.board ≡ b) × (item.cost ≡ cost) × (item.via ≡ via)
 
 -- the board at this cost is made so, or it came as an item
-abbrev pub HasOrigin : Role → PartState → Position → ℕ → Move → Type 0
+abbrev pub HasOrigin : Role → PartState → BoardModel → ℕ → Move → Type 0
 HasOrigin role part b cost via = IsMade role part.worker b cost via ⊎ CameAs part b cost via
 
 -- The move leads back to where the board came from, as an item at a cost above 0: whoever sent that knows the board before it.
-abbrev pub LeadsBack : PartState → Position → Known → Move → Type 0
+abbrev pub LeadsBack : PartState → BoardModel → Known → Move → Type 0
 LeadsBack part b known m = (0 < known.cost) × (m ≡ opposite known.via) × CameAs part b known.cost known.via
 
 -- the role is that of one of n workers who share a task, and among whom each board has its owner
@@ -72,7 +72,7 @@ pub record IsRole (n : ℕ) (role : Role) : Type 0 where
   pub task : IsTask role.task
   pub few : n ≤ WORKER_LIMIT
   pub me : role.me < n
-  pub owners : (b : Position) → role.owner b < n
+  pub owners : (b : BoardModel) → role.owner b < n
 
 -- no packet of the lane is empty or too long, and all their items are for worker `to`
 abbrev pub AreFor : Role → ℕ → Lane → Type 0
@@ -89,8 +89,8 @@ pub record Keeps (n : ℕ) (role : Role) (part : PartState) : Type 0 where
   pub ends : (length part.sent ≡ n) × (length part.received ≡ n)
   pub sent : (to : ℕ) (lane : Lane) → slice_get part.sent to ≡ Some lane → AreFor role to lane
   pub start : role.owner role.task.start ≡ role.me → KnowsAtMost part.worker role.task.start 0
-  pub successors : (b : Position) (known : Known) → IsTaskBoard role.task b → KnowsAs part.worker b known → known.expanded ≡ true → (m : Move) (b' : Position) (c : ℕ) → Moves role.task.rule b m b' c → IsSeenTo role part b' (known.cost + c) ⊎ LeadsBack part b known m
-  pub origins : (b : Position) (known : Known) → IsTaskBoard role.task b → KnowsAs part.worker b known → HasOrigin role part b known.cost known.via
+  pub successors : (b : BoardModel) (known : Known) → IsTaskBoard role.task b → KnowsAs part.worker b known → known.expanded ≡ true → (m : Move) (b' : BoardModel) (c : ℕ) → Moves role.task.rule b m b' c → IsSeenTo role part b' (known.cost + c) ⊎ LeadsBack part b known m
+  pub origins : (b : BoardModel) (known : Known) → IsTaskBoard role.task b → KnowsAs part.worker b known → HasOrigin role part b known.cost known.via
   pub made : (to : ℕ) (item : Item) → HasUnsent part.worker to item ⊎ WasSent part to item → IsMade role part.worker item.board item.cost item.via
   pub held : (item : Item) → Contains part.worker.held item → HasCome part item
   pub arrived : (item : Item) → HasCome part item → IsItemFor role.task role.owner role.me item → KnowsAtMost part.worker item.board item.cost ⊎ Contains part.worker.held item

@@ -4,7 +4,7 @@ use Rattle.std.specs.Prelude.{slice_get, slice_index_or, unwrap_or, OnOk, OnErr,
 use Rattle.std.proofs.lemmas.List.{map-set, length-replicate, length-map}
 use Rattle.std.specs.Ordering.{nat_cmp}
 use Rattle.std.proofs.lemmas.Bool.Decides.{eqb_tells}
-use Rattle.board.specs.Positions.{Position}
+use Rattle.board.specs.Boards.{BoardModel}
 use Rattle.board.specs.declared.moves.Move.{Move}
 use Rattle.search_keys.specs.SearchKeys.{search_key}
 use Rattle.owners.specs.Owners.{AreWorkers}
@@ -23,8 +23,8 @@ use Rattle.world_model.specs.Shapes.{IsTask}
 use Rattle.thread_model.specs.Changes.{with_packet, Sends, Receives, with_worker, opening_part}
 use Rattle.thread_model.specs.Parts.{PartState, IsRole, Keeps}
 use Rattle.thread_model.specs.Laws.{SettlingIsKept, DroppingIsKept, OpeningsAreKept}
-use Rattle.search_lists.specs.Lists.{Lists}
-use Rattle.message_ledger.specs.Spending.{Spending}
+use Rattle.search_lists.specs.Lists.{SearchListsModel}
+use Rattle.message_ledger.specs.Spending.{AllowanceModel}
 use Rattle.worker_core.specs.declared.worker.Worker.{Worker}
 use Rattle.worker_core.specs.Contexts.{ContextModel, role_from}
 use Rattle.worker_core.specs.Expanding.{role_by}
@@ -32,10 +32,10 @@ use Rattle.worker_core.specs.Roles.{IsGuided, guide_of}
 use Rattle.worker_core.specs.Serving.{Serves, StaysGuided}
 use Rattle.worker_core.specs.Workers.{state_of, at_lane, with_book}
 use Rattle.worker_core.specs.Settling.{SettleOrDrop}
-use Rattle.rings.specs.Rings.{SendingEnd, ReceivingEnd, TakesIn, GivesOut, Looks, sent_lanes, received_lanes, left_lanes}
-use Rattle.hda_run.specs.Problems.{Problem, context_in, task_in}
+use Rattle.rings.specs.Rings.{SenderModel, ReceiverModel, TakesIn, GivesOut, Looks, sent_lanes, received_lanes, left_lanes}
+use Rattle.hda_run.specs.Jobs.{JobModel, context_in, task_in}
 use Rattle.thread_parts.specs.declared.part.Part.{Part}
-use Rattle.thread_parts.specs.Parts.{ChangesItsWorker, face_of, Holds, IsKept, part_state, role_of}
+use Rattle.thread_parts.specs.Parts.{ChangesItsWorker, face_of, IsSoundPart, IsFaceKept, part_state, role_of}
 use Rattle.thread_parts.specs.Steps.{SendByRing, DeliverByRing, WithPurse, IsBarred}
 use Rattle.thread_parts.specs.Parts.{with_means}
 use Rattle.std.specs.Vec.{with_item}
@@ -48,7 +48,7 @@ use Rattle.std.specs.FinMap as map
 
 -- ---- what follows from what a part keeps
 
-module _ {S C D E K G : Type 0} (owner_of : S → ℕ → Position → ℕ) (n : ℕ) (part : Part S C D E K G) (holds : Holds owner_of n part) where
+module _ {S C D E K G : Type 0} (owner_of : S → ℕ → BoardModel → ℕ) (n : ℕ) (part : Part S C D E K G) (holds : IsSoundPart owner_of n part) where
   -- an end for each worker, to send by and to receive by
   pub out_count : length part.outs.items ≡ n
   out_count = sym (length-map part.outs.items (λ out. out.sent)) ∙ holds.keeps.ends.0
@@ -90,14 +90,14 @@ module _ {S C D E K G : Type 0} (owner_of : S → ℕ → Position → ℕ) (n :
 
   -- lists that are the same are guided too
   pub same_guided : (worker : Worker C D E K G) → worker.lists ≡ part.worker.lists → IsGuided (task_in part.job.now) (guide_of (task_in part.job.now)) worker.lists
-  same_guided worker same = subst (λ (lists : Lists). IsGuided (task_in part.job.now) (guide_of (task_in part.job.now)) lists) (sym same) holds.guided
+  same_guided worker same = subst (λ (lists : SearchListsModel). IsGuided (task_in part.job.now) (guide_of (task_in part.job.now)) lists) (sym same) holds.guided
 
   -- a part with another worker and other ends, which keeps what it should, holds, where the worker's lists are the same
-  pub holds_after : (part' : Part S C D E K G) → role_of owner_of n part' ≡ role_of owner_of n part → part'.job.now ≡ part.job.now → Keeps n (role_of owner_of n part) (part_state part') → part'.worker.lists ≡ part.worker.lists → Holds owner_of n part'
+  pub holds_after : (part' : Part S C D E K G) → role_of owner_of n part' ≡ role_of owner_of n part → part'.job.now ≡ part.job.now → Keeps n (role_of owner_of n part) (part_state part') → part'.worker.lists ≡ part.worker.lists → IsSoundPart owner_of n part'
   holds_after part' same job keeps lists = record {
     role = subst (IsRole n) (sym same) holds.role;
     keeps = subst (λ (role : Role). Keeps n role (part_state part')) (sym same) keeps;
-    guided = subst (λ (x : Problem × Lists). IsGuided (task_in x.0) (guide_of (task_in x.0)) x.1) (λ t. (sym job t, sym lists t)) holds.guided;
+    guided = subst (λ (x : JobModel × SearchListsModel). IsGuided (task_in x.0) (guide_of (task_in x.0)) x.1) (λ t. (sym job t, sym lists t)) holds.guided;
   }
 
 -- ---- the steps of a part, as its laws have them: the last item held
@@ -139,7 +139,7 @@ met task item free board =
     ∙ (λ t. map.insert unknown (search_key (board t)) (record { cost = free t; expanded = false; via = item.via }))
 
 -- so it is the worker that begins
-pub first_is : (n : ℕ) (task : Task) (purse : ℕ) (allowance : Spending) (worker state : WorkerState) (item : Item) → item.cost ≡ 0 → item.board ≡ task.start → worker ≡ with_means purse allowance (idle_worker n) → state ≡ record worker { known = relaxation worker.known item } → state ≡ with_means purse allowance (first_worker n task item.via)
+pub first_is : (n : ℕ) (task : Task) (purse : ℕ) (allowance : AllowanceModel) (worker state : WorkerState) (item : Item) → item.cost ≡ 0 → item.board ≡ task.start → worker ≡ with_means purse allowance (idle_worker n) → state ≡ record worker { known = relaxation worker.known item } → state ≡ with_means purse allowance (first_worker n task item.via)
 first_is n task purse allowance worker state item free board begun is =
     is
     ∙ (λ t. record (begun t) { known = relaxation (begun t).known item })
@@ -148,7 +148,7 @@ first_is n task purse allowance worker state item free board begun is =
 -- ---- what the part keeps
 
 -- with another purse, and another allowance, it keeps that; only an empty purse asks for a worker at rest
-pub kept_with_means : (n : ℕ) (role : Role) (part : PartState) (purse : ℕ) (allowance : Spending) → (purse ≡ 0 → part.worker.purse ≡ 0) → Keeps n role part → Keeps n role (with_worker part (with_means purse allowance part.worker))
+pub kept_with_means : (n : ℕ) (role : Role) (part : PartState) (purse : ℕ) (allowance : AllowanceModel) → (purse ≡ 0 → part.worker.purse ≡ 0) → Keeps n role part → Keeps n role (with_worker part (with_means purse allowance part.worker))
 kept_with_means n role part purse allowance still keeps = record {
   shaped = record { known = keeps.shaped.known; held = keeps.shaped.held; lists = keeps.shaped.lists; unsent = keeps.shaped.unsent };
   few_held = keeps.few_held;
@@ -172,12 +172,12 @@ kept_with_means n role part purse allowance still keeps = record {
 }
 
 -- one of some workers has a role, where the task is one
-pub is_role : {S : Type 0} (owner_of : S → ℕ → Position → ℕ) → AreWorkers owner_of → (owners : S) (task : Task) (n me : ℕ) → IsTask task → n ≤ WORKER_LIMIT → me < n → IsRole n (role_by task (owner_of owners) n me)
+pub is_role : {S : Type 0} (owner_of : S → ℕ → BoardModel → ℕ) → AreWorkers owner_of → (owners : S) (task : Task) (n me : ℕ) → IsTask task → n ≤ WORKER_LIMIT → me < n → IsRole n (role_by task (owner_of owners) n me)
 is_role owner_of are_workers owners task n me is few there =
     record { task = is; few = few; me = there; owners = λ b. are_workers owners n b (omega (arith, there)) }
 
 -- the part with which a run begins keeps what it should: its worker is the start's owner, or another
-pub begins : {S : Type 0} (owner_of : S → ℕ → Position → ℕ) (owners : S) (task : Task) (n me purse : ℕ) (allowance : Spending) (part : PartState) → OpeningsAreKept → IsRole n (role_by task (owner_of owners) n me)
+pub begins : {S : Type 0} (owner_of : S → ℕ → BoardModel → ℕ) (owners : S) (task : Task) (n me purse : ℕ) (allowance : AllowanceModel) (part : PartState) → OpeningsAreKept → IsRole n (role_by task (owner_of owners) n me)
     → part.sent ≡ replicate n []
     → part.received ≡ replicate n []
     → (owner_of owners n task.start ≡ me → 0 < purse)
@@ -199,17 +199,17 @@ begins owner_of owners task n me purse allowance part law is sent received some 
 ]
 
 -- and so the part holds
-pub opens : {S C D E K G : Type 0} (owner_of : S → ℕ → Position → ℕ) → AreWorkers owner_of → (part : Part S C D E K G) (n workers purse : ℕ) (allowance : Spending) → n ≡ workers → OpeningsAreKept → IsTask (task_in part.job.now) → n ≤ WORKER_LIMIT → part.me < n
+pub opens : {S C D E K G : Type 0} (owner_of : S → ℕ → BoardModel → ℕ) → AreWorkers owner_of → (part : Part S C D E K G) (n workers purse : ℕ) (allowance : AllowanceModel) → n ≡ workers → OpeningsAreKept → IsTask (task_in part.job.now) → n ≤ WORKER_LIMIT → part.me < n
     → sent_lanes part.outs.items ≡ replicate n []
     → received_lanes part.ins.items ≡ replicate n []
     → (owner_of part.owners.now n part.job.now.start ≡ part.me → 0 < purse)
     → (owner_of part.owners.now n part.job.now.start ≡ part.me → (via : Move) × (state_of part.worker ≡ with_means purse allowance (first_worker n (task_in part.job.now) via)))
     → (owner_of part.owners.now n part.job.now.start ≢ part.me → state_of part.worker ≡ with_means purse allowance (idle_worker n))
     → IsGuided (task_in part.job.now) (guide_of (task_in part.job.now)) part.worker.lists
-    → Holds owner_of workers part
+    → IsSoundPart owner_of workers part
 opens owner_of are_workers part n workers purse allowance count law task few there sent received some first idle guided =
     let role = is_role owner_of are_workers part.owners.now (task_in part.job.now) n part.me task few there in
-    subst (λ (k : ℕ). Holds owner_of k part) count (record {
+    subst (λ (k : ℕ). IsSoundPart owner_of k part) count (record {
       role = role;
       keeps = begins owner_of part.owners.now (task_in part.job.now) n part.me purse allowance (part_state part) law role sent received some first idle;
       guided = guided;
@@ -236,8 +236,8 @@ pub all_same : {X Y : Type 0} (f : X → Y) (ends : List X) (at : ℕ) (end end'
 all_same f ends at end end' here same = map-set_same f ends at end' end (same ∙ ap f here)
 
 -- what an end has seen and not taken
-pub left_at : (ends : List ReceivingEnd) (at : ℕ) (end : ReceivingEnd) → at < length ends → end ≡ get_or ends at end → slice_index_or (left_lanes ends) at [] ≡ end.left
-left_at ends at end there here = get_or_from_slice_get (left_lanes ends) at end.left [] (seen_at (λ (e : ReceivingEnd). e.left) ends at end there here)
+pub left_at : (ends : List ReceiverModel) (at : ℕ) (end : ReceiverModel) → at < length ends → end ≡ get_or ends at end → slice_index_or (left_lanes ends) at [] ≡ end.left
+left_at ends at end there here = get_or_from_slice_get (left_lanes ends) at end.left [] (seen_at (λ (e : ReceiverModel). e.left) ends at end there here)
 
 -- what holds of an answer
 pub answered : {T F A B : Type 0} (answer : Result T F) → OnOk answer A → OnErr answer B → A ⊎ B
@@ -245,7 +245,7 @@ answered (Ok x) ok err = inl ok
 answered (Err fault) ok err = inr err
 
 module _ {S C D E K G : Type 0} (part : Part S C D E K G) (at : ℕ) (worker : Worker C D E K G) where
-  module _ (end end' : SendingEnd) (here : end ≡ get_or part.outs.items at end) where
+  module _ (end end' : SenderModel) (here : end ≡ get_or part.outs.items at end) where
     abbrev pub with_out : Part S C D E K G
     with_out = record part { worker = worker; outs = with_item part.outs at end' }
 
@@ -255,7 +255,7 @@ module _ {S C D E K G : Type 0} (part : Part S C D E K G) (at : ℕ) (worker : W
       has.funds,
       λ t. record {
         worker = has.worker t;
-        sent = packet_added (λ (e : SendingEnd). e.sent) part.outs.items at end end' (packet_for (state_of part.worker) at) there here (ap (λ (e : SendingEnd). e.sent) has.taken) t;
+        sent = packet_added (λ (e : SenderModel). e.sent) part.outs.items at end end' (packet_for (state_of part.worker) at) there here (ap (λ (e : SenderModel). e.sent) has.taken) t;
         received = received_lanes part.ins.items;
       },
     )
@@ -263,14 +263,14 @@ module _ {S C D E K G : Type 0} (part : Part S C D E K G) (at : ℕ) (worker : W
     pub none_sent : end' ≡ end → state_of worker ≡ state_of part.worker → part_state with_out ≡ part_state part
     none_sent same left = λ t. record {
       worker = left t;
-      sent = all_same (λ (e : SendingEnd). e.sent) part.outs.items at end end' here (ap (λ (e : SendingEnd). e.sent) same) t;
+      sent = all_same (λ (e : SenderModel). e.sent) part.outs.items at end end' here (ap (λ (e : SenderModel). e.sent) same) t;
       received = received_lanes part.ins.items;
     }
 
-    pub out_kept : end'.ring ≡ end.ring → IsKept part with_out
-    out_kept same = λ t. record (face_of part) { outs = all_same (λ (e : SendingEnd). e.ring) part.outs.items at end end' here same t }
+    pub out_kept : end'.ring ≡ end.ring → IsFaceKept part with_out
+    out_kept same = λ t. record (face_of part) { outs = all_same (λ (e : SenderModel). e.ring) part.outs.items at end end' here same t }
 
-  module _ (end end' : ReceivingEnd) (here : end ≡ get_or part.ins.items at end) where
+  module _ (end end' : ReceiverModel) (here : end ≡ get_or part.ins.items at end) where
     abbrev pub with_in : Part S C D E K G
     with_in = record part { worker = worker; ins = with_item part.ins at end' }
 
@@ -283,7 +283,7 @@ module _ {S C D E K G : Type 0} (part : Part S C D E K G) (at : ℕ) (worker : W
       λ t. record {
         worker = has.worker t;
         sent = sent_lanes part.outs.items;
-        received = packet_added (λ (e : ReceivingEnd). e.received) part.ins.items at end end' has.packet there here has.given.1 t;
+        received = packet_added (λ (e : ReceiverModel). e.received) part.ins.items at end end' has.packet there here has.given.1 t;
       },
     )
 
@@ -291,11 +291,11 @@ module _ {S C D E K G : Type 0} (part : Part S C D E K G) (at : ℕ) (worker : W
     none_received same left = λ t. record {
       worker = left t;
       sent = sent_lanes part.outs.items;
-      received = all_same (λ (e : ReceivingEnd). e.received) part.ins.items at end end' here same.1 t;
+      received = all_same (λ (e : ReceiverModel). e.received) part.ins.items at end end' here same.1 t;
     }
 
-    pub in_kept : end'.ring ≡ end.ring → IsKept part with_in
-    in_kept same = λ t. record (face_of part) { ins = all_same (λ (e : ReceivingEnd). e.ring) part.ins.items at end end' here same t }
+    pub in_kept : end'.ring ≡ end.ring → IsFaceKept part with_in
+    in_kept same = λ t. record (face_of part) { ins = all_same (λ (e : ReceiverModel). e.ring) part.ins.items at end end' here same t }
 
 -- ---- what a part sees of a ring
 
@@ -313,9 +313,9 @@ abbrev pub full_lane : Lane
 full_lane = replicate LANE_LIMIT []
 
 -- an end that has not changed may be that of a full lane
-pub at_full : (end end' : SendingEnd) → end' ≡ end → IsAtSender (λ packet. TakesIn end packet end') ⊤ (end' ≡ end) full_lane full_lane
+pub at_full : (end end' : SenderModel) → end' ≡ end → IsAtSender (λ packet. TakesIn end packet end') ⊤ (end' ≡ end) full_lane full_lane
 at_full end end' same = record {
-  taken = λ packet took. absurd (not_longer end.sent packet (ap (λ (e : SendingEnd). e.sent) (sym same ∙ took)));
+  taken = λ packet took. absurd (not_longer end.sent packet (ap (λ (e : SenderModel). e.sent) (sym same ∙ took)));
   full = λ _. length-replicate {A = Packet} LANE_LIMIT [];
   kept = λ _. refl;
 }
@@ -333,7 +333,7 @@ send_by_ring to part part' (Err refusal) sent refused = refuses_to_send to part 
 -- ---- a packet comes
 
 -- an end by which nothing came may be that of an empty lane
-pub at_empty : (end end' : ReceivingEnd) → Looks end end' → IsAtReceiver (λ packet. GivesOut end packet end') (end.left ≡ []) (Looks end end') [] []
+pub at_empty : (end end' : ReceiverModel) → Looks end end' → IsAtReceiver (λ packet. GivesOut end packet end') (end.left ≡ []) (Looks end end') [] []
 at_empty end end' same = record {
   given = λ packet gave. absurd (not_longer end.received packet (sym same.1 ∙ gave.1));
   empty = λ _. refl;
@@ -354,7 +354,7 @@ abbrev pub lane_of_one : Lane
 lane_of_one = [] ∷ []
 
 -- an end by which nothing came, and which has seen a packet, may be that of a lane with one
-at_one : (end end' : ReceivingEnd) → end.left ≢ [] → Looks end end' → IsAtReceiver (λ packet. GivesOut end packet end') (end.left ≡ []) (Looks end end') lane_of_one lane_of_one
+at_one : (end end' : ReceiverModel) → end.left ≢ [] → Looks end end' → IsAtReceiver (λ packet. GivesOut end packet end') (end.left ≡ []) (Looks end end') lane_of_one lane_of_one
 at_one end end' some same = record {
   given = λ packet gave. absurd (not_longer end.received packet (sym same.1 ∙ gave.1));
   empty = λ none. absurd (some none);
@@ -369,14 +369,14 @@ not_empty worker worker' (inr (none, inr (room, inl out))) = let wrong = out.0 i
 not_empty worker worker' (inr (none, inr (room, inr (some, is)))) = let wrong = is.3.0 in absurd (cc)
 
 -- so the end has seen none
-left_empty : (end end' : ReceivingEnd) (worker worker' : WorkerState) → Looks end end' → ((before after : Lane) → IsAtReceiver (λ packet. GivesOut end packet end') (end.left ≡ []) (Looks end end') before after → DeliverStep (turn (at_lane worker before) (Some RingEmpty) (at_lane worker' after))) → end.left ≡ []
+left_empty : (end end' : ReceiverModel) (worker worker' : WorkerState) → Looks end end' → ((before after : Lane) → IsAtReceiver (λ packet. GivesOut end packet end') (end.left ≡ []) (Looks end end') before after → DeliverStep (turn (at_lane worker before) (Some RingEmpty) (at_lane worker' after))) → end.left ≡ []
 left_empty end end' worker worker' same step = by_left end.left refl
   where
     by_left : (left : Lane) → end.left ≡ left → end.left ≡ []
     by_left [] is = is
     by_left (packet ∷ rest) is = absurd (not_empty worker worker' (step lane_of_one lane_of_one (at_one end end' (λ none. absurd (cc (is, none))) same)))
 
-pub none_seen : {T : Type 0} (answer : Result T Refusal) (end end' : ReceivingEnd) (worker worker' : WorkerState) → OnErr answer (Looks end end' × (worker' ≡ worker)) → ((before after : Lane) → IsAtReceiver (λ packet. GivesOut end packet end') (end.left ≡ []) (Looks end end') before after → DeliverStep (turn (at_lane worker before) (refusal_in answer) (at_lane worker' after))) → answer ≡ Err RingEmpty → end.left ≡ []
+pub none_seen : {T : Type 0} (answer : Result T Refusal) (end end' : ReceiverModel) (worker worker' : WorkerState) → OnErr answer (Looks end end' × (worker' ≡ worker)) → ((before after : Lane) → IsAtReceiver (λ packet. GivesOut end packet end') (end.left ≡ []) (Looks end end') before after → DeliverStep (turn (at_lane worker before) (refusal_in answer) (at_lane worker' after))) → answer ≡ Err RingEmpty → end.left ≡ []
 none_seen (Ok x) end end' worker worker' same step is = absurd (cc is)
 none_seen (Err refusal) end end' worker worker' same step is =
     let empty : refusal ≡ RingEmpty = cc in

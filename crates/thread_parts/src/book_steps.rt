@@ -9,7 +9,7 @@ ghost use Rattle.world_model.specs.BookSteps.{DrawStep, AnnounceStep, GrantStep,
 ghost use Rattle.world_model.specs.BookSteps.{HaltStep};
 ghost use Rattle.world_model.specs.Turns.{turn, refusal_in};
 ghost use Rattle.worker_core.specs.Workers.{state_of, with_book};
-ghost use Rattle.thread_parts.specs.Parts.{role_of, Holds, ChangesItsWorker};
+ghost use Rattle.thread_parts.specs.Parts.{role_of, IsSoundPart, ChangesItsWorker};
 ghost use Rattle.thread_parts.specs.Steps.{WithPurse, IsBarred};
 
 use crate::part::Part;
@@ -23,7 +23,7 @@ impl<'a, S: Spread, C: Tokens> Part<'a, S, C> {
     /// Draws credit. Refusals: S11 the run is stopped, S12 the purse is empty, S16 the credit is
     /// too great.
     pub fn draw(&mut self, book: &mut Book<C>) -> Result<(), Refusal>
-        requires { Holds S.owner_of C.workers self.old }
+        requires { IsSoundPart S.owner_of C.workers self.old }
         ensures step { DrawStep (turn (with_book (state_of self.old.worker) book.old)
             (refusal_in result) (with_book (state_of self.new.worker) book.new)) }
         ensures part { ChangesItsWorker S.owner_of C.workers self.old self.new }
@@ -39,7 +39,7 @@ impl<'a, S: Spread, C: Tokens> Part<'a, S, C> {
     /// purse is empty, S9 another worker owns the goal, or it is unknown, or its cost isn't below
     /// the best.
     pub fn announce(&mut self, book: &mut Book<C>) -> Result<(), Refusal>
-        requires { Holds S.owner_of C.workers self.old }
+        requires { IsSoundPart S.owner_of C.workers self.old }
         ensures step { WithPurse (AnnounceStep (role_of S.owner_of C.workers self.old))
             (turn (with_book (state_of self.old.worker) book.old)
             (refusal_in result) (with_book (state_of self.new.worker) book.new)) }
@@ -58,7 +58,7 @@ impl<'a, S: Spread, C: Tokens> Part<'a, S, C> {
     /// Is granted expansions. Refusals: S11 the run is stopped, S12 the purse is empty, S1 no board
     /// may be expanded below the limit, S14 allowance is left, S2 all of the limit is granted.
     pub fn grant(&mut self, book: &mut Book<C>) -> Result<(), Refusal>
-        requires { Holds S.owner_of C.workers self.old }
+        requires { IsSoundPart S.owner_of C.workers self.old }
         ensures step { WithPurse (GrantStep (role_of S.owner_of C.workers self.old))
             (turn (with_book (state_of self.old.worker) book.old)
             (refusal_in result) (with_book (state_of self.new.worker) book.new)) }
@@ -74,7 +74,7 @@ impl<'a, S: Spread, C: Tokens> Part<'a, S, C> {
     /// Rests: gives the purse back. Refusals: S11 the run is stopped, S12 the purse is empty, S10
     /// something is held or unsent, a better goal is known, or a board may be expanded.
     pub fn rest(&mut self, book: &mut Book<C>) -> Result<Rested, Refusal>
-        requires { Holds S.owner_of C.workers self.old }
+        requires { IsSoundPart S.owner_of C.workers self.old }
         ensures step { RestStep (role_of S.owner_of C.workers self.old)
             (turn (with_book (state_of self.old.worker) book.old)
             (refusal_in result) (with_book (state_of self.new.worker) book.new)) }
@@ -94,7 +94,7 @@ impl<'a, S: Spread, C: Tokens> Part<'a, S, C> {
     /// Halts the run. Refusals: S11 the run is stopped, S12 the purse is empty, S14 it is to be
     /// halted for the limit, and allowance is left, or not all of the limit is granted.
     pub fn halt(&mut self, cause: HaltCause, book: &mut Book<C>) -> Result<(), Refusal>
-        requires holds { Holds S.owner_of C.workers self.old }
+        requires holds { IsSoundPart S.owner_of C.workers self.old }
         requires want { (want : Want) → cause ≡ HaltCause.Memory want → C.allows_want want }
         ensures step { WithPurse (HaltStep cause)
             (turn (with_book (state_of self.old.worker) book.old)

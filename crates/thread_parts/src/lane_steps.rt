@@ -4,7 +4,7 @@ ghost use Rattle.std.specs.Prelude.{◌≡◌, ◌<◌, [], IsErrOf, slice_index
 ghost use Rattle.rings.specs.Rings.{left_lanes};
 ghost use Rattle.world_model.specs.declared.steps.Refusal.{Refusal};
 ghost use Rattle.world_model.specs.Turns.{turn, refusal_in};
-ghost use Rattle.thread_parts.specs.Parts.{part_state, Holds, KeepsPart};
+ghost use Rattle.thread_parts.specs.Parts.{part_state, IsSoundPart, KeepsPart};
 ghost use Rattle.thread_parts.specs.Steps.{SendByRing, DeliverByRing};
 
 use crate::part::Part;
@@ -17,7 +17,7 @@ impl<'a, S: Spread, C: Tokens> Part<'a, S, C> {
     /// Sends what is unsent for worker `to` as one packet, with 1 of the purse. Refusals: S13
     /// nothing is unsent for it, S6 the purse is below 2, S4 the ring is full.
     pub fn send(&mut self, to: usize) -> Result<(), Refusal>
-        requires holds { Holds S.owner_of C.workers self.old }
+        requires holds { IsSoundPart S.owner_of C.workers self.old }
         requires there { to < C.workers }
         ensures step { SendByRing to (turn (part_state self.old) (refusal_in result)
             (part_state self.new)) }
@@ -32,7 +32,7 @@ impl<'a, S: Spread, C: Tokens> Part<'a, S, C> {
     /// gets its 1. Refusals: S7 something is held, S16 the purse is too great, S5 the ring is
     /// empty: it has seen no packet there that it hasn't taken.
     pub fn deliver(&mut self, from: usize) -> Result<(), Refusal>
-        requires holds { Holds S.owner_of C.workers self.old }
+        requires holds { IsSoundPart S.owner_of C.workers self.old }
         requires there { from < C.workers }
         ensures step { DeliverByRing from (turn (part_state self.old) (refusal_in result)
             (part_state self.new)) }

@@ -4,7 +4,7 @@ ghost use Rattle.std.specs.Prelude.{◌≡◌, ◌≢◌, ◌<◌, ◌%◌, [], 
 ghost use Rattle.board.specs.declared.moves.Move.{Move};
 ghost use Rattle.worker_core.specs.Roles.{IsGuided, guide_of};
 ghost use Rattle.rings.specs.Rings.{out_rings, in_rings, sent_lanes, received_lanes};
-ghost use Rattle.hda_run.specs.Problems.{task_in};
+ghost use Rattle.hda_run.specs.Jobs.{task_in};
 ghost use Rattle.worker_core.specs.Workers.{state_of};
 ghost use Rattle.thread_parts.specs.Parts.{with_means};
 ghost use Rattle.world_model.specs.Openings.{idle_worker, first_worker};

@@ -5,7 +5,7 @@ ghost use Rattle.world_model.specs.Turns.{turn, refusal_in};
 ghost use Rattle.world_model.specs.WorkerSteps.{ExpandOnwardStep};
 ghost use Rattle.worker_core.specs.Settling.{SettleOrDrop};
 ghost use Rattle.worker_core.specs.Workers.{state_of};
-ghost use Rattle.thread_parts.specs.Parts.{role_of, Holds, ChangesItsWorker};
+ghost use Rattle.thread_parts.specs.Parts.{role_of, IsSoundPart, ChangesItsWorker};
 
 use crate::part::Part;
 use message_ledger::Tokens;
@@ -21,7 +21,7 @@ impl<'a, S: Spread, C: Tokens> Part<'a, S, C> {
     /// be expanded below the limit, S2 no allowance is left, S3 a packet has no room, S8 memory was
     /// refused.
     pub fn expand(&mut self, alloc: Global) -> Result<(), Refusal>
-        requires { Holds S.owner_of C.workers self.old }
+        requires { IsSoundPart S.owner_of C.workers self.old }
         ensures step { ExpandOnwardStep (role_of S.owner_of C.workers self.old)
             (turn (state_of self.old.worker) (refusal_in result) (state_of self.new.worker)) }
         ensures part { ChangesItsWorker S.owner_of C.workers self.old self.new }
@@ -35,7 +35,7 @@ impl<'a, S: Spread, C: Tokens> Part<'a, S, C> {
     /// Takes the last held item out: drops it where it is foreign, and else relaxes its board.
     /// Refusals: S13 nothing is held, S8 memory was refused.
     pub fn settle(&mut self, alloc: Global) -> Result<(), Refusal>
-        requires { Holds S.owner_of C.workers self.old }
+        requires { IsSoundPart S.owner_of C.workers self.old }
         ensures step { SettleOrDrop (role_of S.owner_of C.workers self.old)
             (turn (state_of self.old.worker) (refusal_in result) (state_of self.new.worker)) }
         ensures part { ChangesItsWorker S.owner_of C.workers self.old self.new }

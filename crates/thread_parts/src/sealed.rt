@@ -1,7 +1,7 @@
 //! A part that goes from one thread to another.
 
 ghost use Rattle.std.specs.Prelude.{◌≡◌};
-ghost use Rattle.thread_parts.specs.Parts.{Holds, face_of};
+ghost use Rattle.thread_parts.specs.Parts.{IsSoundPart, face_of};
 
 use crate::part::Part;
 use message_ledger::Tokens;
@@ -15,19 +15,19 @@ pub struct Sealed<'a, S: Spread, C: Tokens> {
 }
 
 impl<'a, S: Spread, C: Tokens> Model for Sealed<'a, S, C> {
-    ghost use Rattle.thread_parts.specs.Parts.{Face, Holds, face_of};
+    ghost use Rattle.thread_parts.specs.Parts.{SealedModel, IsSoundPart, face_of};
 
-    ghost Value = { Face S };
+    ghost Value = { SealedModel S };
 
     ghost view = { λ s. face_of s.part };
 
-    ghost invariant = { λ s. Holds S.owner_of C.workers s.part };
+    ghost invariant = { λ s. IsSoundPart S.owner_of C.workers s.part };
 }
 
 impl<'a, S: Spread, C: Tokens> Sealed<'a, S, C> {
     /// Seals a part.
     pub fn new(part: Part<'a, S, C>) -> Self
-        requires { Holds S.owner_of C.workers part }
+        requires { IsSoundPart S.owner_of C.workers part }
         ensures { result ≡ face_of part.entry }
     {
         Sealed { part }
@@ -35,7 +35,7 @@ impl<'a, S: Spread, C: Tokens> Sealed<'a, S, C> {
 
     /// The part.
     pub fn open(self) -> Part<'a, S, C>
-        ensures holds { Holds S.owner_of C.workers result }
+        ensures holds { IsSoundPart S.owner_of C.workers result }
         ensures face { face_of result ≡ self.entry }
     {
         let Sealed { part } = self;

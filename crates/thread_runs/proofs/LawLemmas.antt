@@ -1,6 +1,6 @@
 -- What so many workers answer.
 use Rattle.std.proofs.Common.{ℕ, None, Some, refl, inl, inr, arith}
-use Rattle.board.specs.Positions.{Position}
+use Rattle.board.specs.Boards.{BoardModel}
 use Rattle.outcomes.specs.declared.outcome.Cause.{Cause}
 use Rattle.outcomes.specs.declared.outcome.Cause.TheVariants.{Limit, Memory, Start, Cost, Cut}
 use Rattle.outcomes.specs.declared.outcome.Want.TheVariants.{Refused, Stated}
@@ -32,12 +32,12 @@ ends_in w (outcome.Unsolvable why) given has = given
 ends_in w (outcome.Bounded bound best cause (Some rows)) given has = (bounds_alone w bound best cause rows given.4.1).1 (inl given)
 ends_in w (outcome.Bounded bound best cause None) given has = absurd (cc has)
 
-module _ {S : Type 0} (owner_of : S → ℕ → Position → ℕ) where
+module _ {S : Type 0} (owner_of : S → ℕ → BoardModel → ℕ) where
   pub solved_ends : SolvedRunsEnd owner_of
   solved_ends p owners n it (inl (several, (w, joined, (kept, given)))) has = inl (several, (w, joined, (kept, ends_in w it given has)))
   solved_ends p owners n it (inr ((w, run, given), left)) has = inr ((w, run, ends_in w it given has), left)
 
-module _ {S X : Type 0} (gives : WorldState → X → Type 0) (owner_of : S → ℕ → Position → ℕ) where
+module _ {S X : Type 0} (gives : WorldState → X → Type 0) (owner_of : S → ℕ → BoardModel → ℕ) where
   pub one_alone : OneIsAlone gives owner_of
   one_alone p owners it (inl (several, by)) = absurd (omega (arith, several))
   one_alone p owners it (inr (run, left)) = run

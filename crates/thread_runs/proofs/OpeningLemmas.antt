@@ -3,12 +3,12 @@ use Rattle.std.proofs.Common.{◌≡◌, ℕ, refl, sym, ◌∙◌, subst, inr, 
 use Rattle.std.specs.Prelude.{◌≤◌, IfNone, IfSome, slice_get, slice_index_or, option_map}
 use Rattle.std.proofs.lemmas.Option.{none-some, slice_get-map, get_or_from_slice_get}
 use Rattle.rings.specs.Rings.{Ring, ArePaired}
-use Rattle.hda_run.specs.Problems.{Problem, task_in}
-use Rattle.thread_parts.specs.Parts.{Face, face}
+use Rattle.hda_run.specs.Jobs.{JobModel, task_in}
+use Rattle.thread_parts.specs.Parts.{SealedModel, face}
 use Rattle.thread_joins.specs.Threads.{IsJoint}
 use Rattle.std.proofs.lemmas.List.{length-replicate, length-set}
 use Rattle.board.specs.declared.moves.Move.TheVariants.{U}
-use Rattle.board.specs.Positions.{Position}
+use Rattle.board.specs.Boards.{BoardModel}
 use Rattle.board.specs.Rows.{IsLowerBound}
 use Rattle.owners.specs.Owners.{AreWorkers}
 use Rattle.outcomes.specs.Outcomes.{Task}
@@ -56,12 +56,12 @@ module _ {V Y : Type 0} (f : V → Y) (rows : List V) (i : ℕ) (row : V) (at : 
   pub row_same : (n : ℕ) (x : Y) → map f rows ≡ replicate n x → f row ≡ x
   row_same n x same = replicated n i x (f row) (subst (λ (l : List Y). slice_get l i ≡ Some (f row)) same mapped)
 
-module _ {S : Type 0} (p : Problem) (owners : S) where
+module _ {S : Type 0} (p : JobModel) (owners : S) where
   -- the face of worker i with its ends of these rings
-  abbrev pub IsFace : List (List Ring) → List (List Ring) → ℕ → Face S → Type 0
+  abbrev pub IsFace : List (List Ring) → List (List Ring) → ℕ → SealedModel S → Type 0
   IsFace outs ins i it = it ≡ face p owners i (slice_index_or outs i []) (slice_index_or ins i [])
 
-  rows_are : (g : Face S → List Ring) (faces : List (Face S)) (rows : List (List Ring)) → length faces ≡ length rows → ((i : ℕ) (it : Face S) → slice_get faces i ≡ Some it → g it ≡ slice_index_or rows i []) → map g faces ≡ rows
+  rows_are : (g : SealedModel S → List Ring) (faces : List (SealedModel S)) (rows : List (List Ring)) → length faces ≡ length rows → ((i : ℕ) (it : SealedModel S) → slice_get faces i ≡ Some it → g it ≡ slice_index_or rows i []) → map g faces ≡ rows
   rows_are g [] [] len h = refl
   rows_are g [] (r ∷ rows) len h = absurd (omega (arith, len))
   rows_are g (f ∷ faces) [] len h = absurd (omega (arith, len))
@@ -70,21 +70,21 @@ module _ {S : Type 0} (p : Problem) (owners : S) where
       let rest : map g faces ≡ rows = rows_are g faces rows (omega (arith, len)) (λ i it at. h (suc i) it at) in
       λ t. first t ∷ rest t
 
-  pub joint_of : (n : ℕ) (faces : List (Face S)) (outs ins : List (List Ring)) → length faces ≡ n → ArePaired n outs ins → ((i : ℕ) (it : Face S) → slice_get faces i ≡ Some it → IsFace outs ins i it) → IsJoint p owners n faces
+  pub joint_of : (n : ℕ) (faces : List (SealedModel S)) (outs ins : List (List Ring)) → length faces ≡ n → ArePaired n outs ins → ((i : ℕ) (it : SealedModel S) → slice_get faces i ≡ Some it → IsFace outs ins i it) → IsJoint p owners n faces
   joint_of n faces outs ins count paired each =
-      let to_each : map (λ (it : Face S). it.outs) faces ≡ outs = rows_are (λ (it : Face S). it.outs) faces outs (omega (arith, count, paired.outs_len)) (λ i it at. ap (λ (x : Face S). x.outs) (each i it at)) in
-      let from_each : map (λ (it : Face S). it.ins) faces ≡ ins = rows_are (λ (it : Face S). it.ins) faces ins (omega (arith, count, paired.ins_len)) (λ i it at. ap (λ (x : Face S). x.ins) (each i it at)) in
+      let to_each : map (λ (it : SealedModel S). it.outs) faces ≡ outs = rows_are (λ (it : SealedModel S). it.outs) faces outs (omega (arith, count, paired.outs_len)) (λ i it at. ap (λ (x : SealedModel S). x.outs) (each i it at)) in
+      let from_each : map (λ (it : SealedModel S). it.ins) faces ≡ ins = rows_are (λ (it : SealedModel S). it.ins) faces ins (omega (arith, count, paired.ins_len)) (λ i it at. ap (λ (x : SealedModel S). x.ins) (each i it at)) in
       record {
         count = count;
-        jobs = λ i it at. ap (λ (x : Face S). x.job) (each i it at);
-        spreads = λ i it at. ap (λ (x : Face S). x.owners) (each i it at);
-        places = λ i it at. ap (λ (x : Face S). x.me) (each i it at);
+        jobs = λ i it at. ap (λ (x : SealedModel S). x.job) (each i it at);
+        spreads = λ i it at. ap (λ (x : SealedModel S). x.owners) (each i it at);
+        places = λ i it at. ap (λ (x : SealedModel S). x.me) (each i it at);
         paired = subst (λ (both : List (List Ring) × List (List Ring)). ArePaired n both.0 both.1) (λ t. (sym to_each t, sym from_each t)) paired;
       }
 
 -- ---- What is found of threads.
 
-module _ {S X : Type 0} (gives : WorldState → X → Type 0) (owner_of : S → ℕ → Position → ℕ) (p : Problem) (owners : S) (n : ℕ) where
+module _ {S X : Type 0} (gives : WorldState → X → Type 0) (owner_of : S → ℕ → BoardModel → ℕ) (p : JobModel) (owners : S) (n : ℕ) where
   -- what is found of a world that is kept, its threads have found
   pub found_given : (found : Option X) → IsFoundByThreads gives owner_of p owners n found → IfSome found (λ answer. IsFoundByThreads gives owner_of p owners n (Some answer))
   found_given None by = tt
@@ -115,7 +115,7 @@ module _ {S X : Type 0} (gives : WorldState → X → Type 0) (owner_of : S → 
             (never.0, never.1, never_stated w joined.no_list bound best cause has)
 
 -- where no thread has started, the world is the opening one, which isn't kept
-pub none_started : {S : Type 0} (owner_of : S → ℕ → Position → ℕ) → AreWorkers owner_of → (p : Problem) (owners : S) (n : ℕ) → IsTask (task_in p) → IsWorkerCount n → IsLeftToOne owner_of p owners n
+pub none_started : {S : Type 0} (owner_of : S → ℕ → BoardModel → ℕ) → AreWorkers owner_of → (p : JobModel) (owners : S) (n : ℕ) → IsTask (task_in p) → IsWorkerCount n → IsLeftToOne owner_of p owners n
 none_started owner_of are_workers p owners n task count =
     let job = job_of owner_of p owners n in
     let w = opening job U in

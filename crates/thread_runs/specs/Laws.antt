@@ -3,7 +3,7 @@ use Rattle.std.specs.Prelude.{ℕ, ◌≡◌, ◌⊎◌, ◌≤◌, ⊤, Option,
 use Rattle.std.specs.declared.alloc.Global.{Global}
 use Rattle.memory.specs.declared.OutOfMemory.{OutOfMemory}
 use Rattle.board.specs.declared.moves.Move.{Move}
-use Rattle.board.specs.Positions.{Position}
+use Rattle.board.specs.Boards.{BoardModel}
 use Rattle.outcomes.specs.declared.outcome.Cause.{Cause}
 use Rattle.outcomes.specs.declared.outcome.Cause.TheVariants.{Limit, Cost, Memory}
 use Rattle.outcomes.specs.declared.outcome.Want.TheVariants.{Refused}
@@ -15,7 +15,7 @@ use Rattle.world_model.specs.Credit.{expansion_count}
 use Rattle.world_model.specs.Worlds.{WorldState}
 use Rattle.world_ends.specs.Endings.{EndsIn}
 use Rattle.hda_run.specs.Alone.{IsFoundAlone}
-use Rattle.hda_run.specs.Problems.{Problem}
+use Rattle.hda_run.specs.Jobs.{JobModel}
 use Rattle.hda_run.specs.WholeRuns.{EndsWholeRun}
 use Rattle.thread_joins.specs.Threads.{IsFoundByThreads}
 use Rattle.thread_runs.specs.Solved.{IsFoundByWorkers, IsSolved}
@@ -34,23 +34,23 @@ HasItsRows (outcome.Optimal cost plan rows) = ⊤
 HasItsRows (outcome.Unsolvable why) = ⊤
 HasItsRows (outcome.Bounded bound best cause rows) = IsSome rows
 
-module _ {S : Type 0} (owner_of : S → ℕ → Position → ℕ) where
+module _ {S : Type 0} (owner_of : S → ℕ → BoardModel → ℕ) where
   -- what is solved, with its rows, ends so but for these
   abbrev pub SolvedRunsEnd : Type 0
-  SolvedRunsEnd = (p : Problem) (owners : S) (n : ℕ) (it : Outcome) → IsSolved owner_of p owners n it → HasItsRows it → IsFoundByWorkers EndsIn owner_of p owners n (without_rows it)
+  SolvedRunsEnd = (p : JobModel) (owners : S) (n : ℕ) (it : Outcome) → IsSolved owner_of p owners n it → HasItsRows it → IsFoundByWorkers EndsIn owner_of p owners n (without_rows it)
 
-module _ {S X : Type 0} (gives : WorldState → X → Type 0) (owner_of : S → ℕ → Position → ℕ) where
+module _ {S X : Type 0} (gives : WorldState → X → Type 0) (owner_of : S → ℕ → BoardModel → ℕ) where
   -- what is found by one worker is found by it alone
   abbrev pub OneIsAlone : Type 0
-  OneIsAlone = (p : Problem) (owners : S) (it : X) → IsFoundByWorkers gives owner_of p owners 1 it → IsFoundAlone gives owner_of p owners it
+  OneIsAlone = (p : JobModel) (owners : S) (it : X) → IsFoundByWorkers gives owner_of p owners 1 it → IsFoundAlone gives owner_of p owners it
 
   -- the world that gives what is found has expanded no more boards than the problem's limit
   abbrev pub LimitsAreKept : Type 0
-  LimitsAreKept = (p : Problem) (owners : S) (n : ℕ) (it : X) → IsFoundByWorkers gives owner_of p owners n it → (w : WorldState) × gives w it × (expansion_count w ≤ p.limit)
+  LimitsAreKept = (p : JobModel) (owners : S) (n : ℕ) (it : X) → IsFoundByWorkers gives owner_of p owners n it → (w : WorldState) × gives w it × (expansion_count w ≤ p.limit)
 
   -- the world that gives what is found by threads has as many workers as were asked for, and each board is owned in it by whom the owners say
   abbrev pub ThreadsAreAsAsked : Type 0
   ThreadsAreAsAsked =
-      (p : Problem) (owners : S) (n : ℕ) (it : X)
+      (p : JobModel) (owners : S) (n : ℕ) (it : X)
       → IsFoundByThreads gives owner_of p owners n (Some it)
-      → (w : WorldState) × gives w it × (length w.workers ≡ n) × ((b : Position) → w.owner b ≡ owner_of owners n b)
+      → (w : WorldState) × gives w it × (length w.workers ≡ n) × ((b : BoardModel) → w.owner b ≡ owner_of owners n b)

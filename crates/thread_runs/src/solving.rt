@@ -5,7 +5,7 @@ ghost use Rattle.board.specs.Classes.{SameClass};
 ghost use Rattle.outcomes.specs.Outcomes.{Answers};
 ghost use Rattle.outcomes.specs.declared.outcome.Outcome.TheVariants.{Unsolvable};
 ghost use Rattle.outcomes.specs.declared.outcome.Why.TheVariants.{Parity};
-ghost use Rattle.hda_run.specs.Problems.{task_in};
+ghost use Rattle.hda_run.specs.Jobs.{task_in};
 ghost use Rattle.hda_run.specs.WholeRuns.{EndsWholeRun, HasWholeRun};
 ghost use Rattle.hda_run.specs.Worlds.{IsWorkerCount};
 ghost use Rattle.thread_joins.specs.Threads.{IsFoundByThreads};

@@ -2,7 +2,7 @@
 
 ghost use Rattle.std.specs.Prelude.{◌≡◌, IsErr};
 ghost use Rattle.outcomes.specs.declared.outcome.Want.{Want};
-ghost use Rattle.thread_parts.specs.Parts.{Holds, KeepsPart};
+ghost use Rattle.thread_parts.specs.Parts.{IsSoundPart, KeepsPart};
 ghost use Rattle.world_model.specs.declared.steps.HaltCause.{HaltCause};
 
 use crate::lane_steps::has_unsent;
@@ -20,7 +20,7 @@ use world_model::{HaltCause, Refusal};
 impl<'a, R: Wait, G: Gate, C: Tokens> Site<'a, R, G, C> {
     /// Draws credit, where the purse was too small for a packet. Answers whether there is more.
     pub(crate) fn draw<S: Spread>(&self, part: &mut Part<'_, S, C>) -> bool
-        requires { Holds S.owner_of C.workers part.old }
+        requires { IsSoundPart S.owner_of C.workers part.old }
         ensures { KeepsPart S.owner_of C.workers part.old part.new }
     {
         let drawn = part.draw(&mut self.book.lock(self.rt));
@@ -34,7 +34,7 @@ impl<'a, R: Wait, G: Gate, C: Tokens> Site<'a, R, G, C> {
     /// Asks for allowance, where none was left. Where none is granted because the whole limit was,
     /// the run is halted. Answers what the refusal was.
     pub(crate) fn ask<S: Spread>(&self, part: &mut Part<'_, S, C>) -> Result<(), Refusal>
-        requires { Holds S.owner_of C.workers part.old }
+        requires { IsSoundPart S.owner_of C.workers part.old }
         ensures { KeepsPart S.owner_of C.workers part.old part.new }
     {
         let granted = part.grant(&mut self.book.lock(self.rt));
@@ -51,7 +51,7 @@ impl<'a, R: Wait, G: Gate, C: Tokens> Site<'a, R, G, C> {
 
     /// Announces the goal's cost, where this worker knows it below the best cost that it knows of.
     pub(crate) fn tell_news<S: Spread>(&self, part: &mut Part<'_, S, C>)
-        requires { Holds S.owner_of C.workers part.old }
+        requires { IsSoundPart S.owner_of C.workers part.old }
         ensures { KeepsPart S.owner_of C.workers part.old part.new }
     {
         let goal = part.job.keyed_goal();
@@ -67,7 +67,7 @@ impl<'a, R: Wait, G: Gate, C: Tokens> Site<'a, R, G, C> {
 
     /// Rests, where nothing is unsent. Answers whether it came to rest.
     pub(crate) fn rest<S: Spread>(&self, part: &mut Part<'_, S, C>) -> bool
-        requires { Holds S.owner_of C.workers part.old }
+        requires { IsSoundPart S.owner_of C.workers part.old }
         ensures { KeepsPart S.owner_of C.workers part.old part.new }
     {
         // The book would refuse it, and the lock is left to those that have something to do.
@@ -87,7 +87,7 @@ impl<'a, R: Wait, G: Gate, C: Tokens> Site<'a, R, G, C> {
 
     /// Halts the run because memory was refused.
     pub(crate) fn halt_for_memory<S: Spread>(&self, part: &mut Part<'_, S, C>, refused: OutOfMemory)
-        requires { Holds S.owner_of C.workers part.old }
+        requires { IsSoundPart S.owner_of C.workers part.old }
         ensures { KeepsPart S.owner_of C.workers part.old part.new }
     {
         self.halt(part, HaltCause::Memory(Want::Refused(refused)));
@@ -95,7 +95,7 @@ impl<'a, R: Wait, G: Gate, C: Tokens> Site<'a, R, G, C> {
 
     // Halts the run, and marks it.
     fn halt<S: Spread>(&self, part: &mut Part<'_, S, C>, cause: HaltCause)
-        requires holds { Holds S.owner_of C.workers part.old }
+        requires holds { IsSoundPart S.owner_of C.workers part.old }
         requires want { (want : Want) → cause ≡ HaltCause.Memory want → C.allows_want want }
         ensures { KeepsPart S.owner_of C.workers part.old part.new }
     {

@@ -1,7 +1,7 @@
 //! What workers do with packets.
 
 ghost use Rattle.std.specs.Prelude.{◌≡◌, ◌<◌, length};
-ghost use Rattle.thread_parts.specs.Parts.{Holds, KeepsPart};
+ghost use Rattle.thread_parts.specs.Parts.{IsSoundPart, KeepsPart};
 
 use crate::site::Site;
 use hda_run::{Gate, Kind};
@@ -19,7 +19,7 @@ impl<'a, R: Wait, G: Gate, C: Tokens> Site<'a, R, G, C> {
     /// Takes in at most one packet from each worker, and settles it to the end. Answers whether
     /// there was one.
     pub(crate) fn receive<S: Spread>(&self, part: &mut Part<'_, S, C>) -> bool
-        requires { Holds S.owner_of C.workers part.old }
+        requires { IsSoundPart S.owner_of C.workers part.old }
         ensures { KeepsPart S.owner_of C.workers part.old part.new }
     {
         let mut some = false;
@@ -37,7 +37,7 @@ impl<'a, R: Wait, G: Gate, C: Tokens> Site<'a, R, G, C> {
 
     // Settles all that is held. Where memory is refused the run is halted.
     fn settle_all<S: Spread>(&self, part: &mut Part<'_, S, C>)
-        requires { Holds S.owner_of C.workers part.old }
+        requires { IsSoundPart S.owner_of C.workers part.old }
         ensures { KeepsPart S.owner_of C.workers part.old part.new }
     {
         'items: for _ in 0..PACKET_LIMIT {
@@ -55,7 +55,7 @@ impl<'a, R: Wait, G: Gate, C: Tokens> Site<'a, R, G, C> {
 
     /// Sends all that is unsent. Answers whether a packet went out.
     pub(crate) fn send_all<S: Spread>(&self, part: &mut Part<'_, S, C>) -> bool
-        requires { Holds S.owner_of C.workers part.old }
+        requires { IsSoundPart S.owner_of C.workers part.old }
         ensures { KeepsPart S.owner_of C.workers part.old part.new }
     {
         self.send_from(part, 1)
@@ -63,7 +63,7 @@ impl<'a, R: Wait, G: Gate, C: Tokens> Site<'a, R, G, C> {
 
     /// Sends the packets in which a board may lack room. Answers whether one went out.
     pub(crate) fn send_full<S: Spread>(&self, part: &mut Part<'_, S, C>) -> bool
-        requires { Holds S.owner_of C.workers part.old }
+        requires { IsSoundPart S.owner_of C.workers part.old }
         ensures { KeepsPart S.owner_of C.workers part.old part.new }
     {
         self.send_from(part, NEARLY_FULL)
@@ -71,7 +71,7 @@ impl<'a, R: Wait, G: Gate, C: Tokens> Site<'a, R, G, C> {
 
     // Sends the packets that have so many items at least. Answers whether one went out.
     fn send_from<S: Spread>(&self, part: &mut Part<'_, S, C>, fewest: usize) -> bool
-        requires { Holds S.owner_of C.workers part.old }
+        requires { IsSoundPart S.owner_of C.workers part.old }
         ensures { KeepsPart S.owner_of C.workers part.old part.new }
     {
         let mut some = false;
@@ -90,7 +90,7 @@ impl<'a, R: Wait, G: Gate, C: Tokens> Site<'a, R, G, C> {
     // Sends what is unsent for a worker, and draws credit where the purse is too small for it.
     // Answers whether it went out.
     fn send<S: Spread>(&self, part: &mut Part<'_, S, C>, to: usize) -> bool
-        requires holds { Holds S.owner_of C.workers part.old }
+        requires holds { IsSoundPart S.owner_of C.workers part.old }
         requires there { to < C.workers }
         ensures { KeepsPart S.owner_of C.workers part.old part.new }
     {
@@ -103,7 +103,7 @@ impl<'a, R: Wait, G: Gate, C: Tokens> Site<'a, R, G, C> {
 
     // Sends what is unsent for a worker, and wakes it.
     fn hand_over<S: Spread>(&self, part: &mut Part<'_, S, C>, to: usize) -> Result<(), Refusal>
-        requires holds { Holds S.owner_of C.workers part.old }
+        requires holds { IsSoundPart S.owner_of C.workers part.old }
         requires there { to < C.workers }
         ensures { KeepsPart S.owner_of C.workers part.old part.new }
     {
@@ -118,7 +118,7 @@ impl<'a, R: Wait, G: Gate, C: Tokens> Site<'a, R, G, C> {
 
 /// Whether a worker has something unsent.
 pub(crate) fn has_unsent<S: Spread, C: Tokens>(part: &Part<'_, S, C>) -> bool
-    requires { Holds S.owner_of C.workers part.now }
+    requires { IsSoundPart S.owner_of C.workers part.now }
 {
     let workers = worker_count(part);
     'workers: for to in 0..workers {
@@ -131,7 +131,7 @@ pub(crate) fn has_unsent<S: Spread, C: Tokens>(part: &Part<'_, S, C>) -> bool
 
 // How many items are unsent for a worker.
 fn unsent_count<S: Spread, C: Tokens>(part: &Part<'_, S, C>, to: usize) -> usize
-    requires holds { Holds S.owner_of C.workers part.now }
+    requires holds { IsSoundPart S.owner_of C.workers part.now }
     requires there { to < C.workers }
 {
     part.worker.unsent(to).len()
@@ -139,7 +139,7 @@ fn unsent_count<S: Spread, C: Tokens>(part: &Part<'_, S, C>, to: usize) -> usize
 
 // How many workers there are.
 fn worker_count<S: Spread, C: Tokens>(part: &Part<'_, S, C>) -> usize
-    requires { Holds S.owner_of C.workers part.now }
+    requires { IsSoundPart S.owner_of C.workers part.now }
     ensures { result ≡ C.workers }
 {
     part.worker.workers()

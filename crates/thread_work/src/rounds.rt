@@ -1,7 +1,7 @@
 //! What a worker does until the run has stopped.
 
 ghost use Rattle.std.specs.Prelude.{◌≡◌};
-ghost use Rattle.thread_parts.specs.Parts.{Holds, IsKept, KeepsPart};
+ghost use Rattle.thread_parts.specs.Parts.{IsSoundPart, IsFaceKept, KeepsPart};
 
 use crate::site::Site;
 use hda_run::{Gate, Kind};
@@ -51,9 +51,9 @@ impl<'a, R: Wait, G: Gate, C: Tokens> Site<'a, R, G, C> {
     // One round: receive, expand, and rest where there was nothing to do. Answers whether something
     // was done. A worker that rests looks at its rings alone, and takes no lock.
     fn round<S: Spread>(&self, part: &mut Part<'_, S, C>) -> bool
-        requires { Holds S.owner_of C.workers part.old }
-        ensures holds { Holds S.owner_of C.workers part.new }
-        ensures kept { IsKept part.old part.new }
+        requires { IsSoundPart S.owner_of C.workers part.old }
+        ensures holds { IsSoundPart S.owner_of C.workers part.new }
+        ensures kept { IsFaceKept part.old part.new }
     {
         let received = self.receive(part);
         if part.worker.purse() == 0 {
@@ -71,7 +71,7 @@ impl<'a, R: Wait, G: Gate, C: Tokens> Site<'a, R, G, C> {
 
     // Expands boards, as many as a round has at most. Answers whether something was done.
     fn expand_some<S: Spread>(&self, part: &mut Part<'_, S, C>) -> bool
-        requires { Holds S.owner_of C.workers part.old }
+        requires { IsSoundPart S.owner_of C.workers part.old }
         ensures { KeepsPart S.owner_of C.workers part.old part.new }
     {
         let mut some = false;
@@ -98,7 +98,7 @@ impl<'a, R: Wait, G: Gate, C: Tokens> Site<'a, R, G, C> {
     // Does what has to be done before the next board can be expanded. Answers whether something was
     // done.
     fn help<S: Spread>(&self, part: &mut Part<'_, S, C>, refusal: Refusal) -> bool
-        requires { Holds S.owner_of C.workers part.old }
+        requires { IsSoundPart S.owner_of C.workers part.old }
         ensures { KeepsPart S.owner_of C.workers part.old part.new }
     {
         match refusal {
@@ -117,7 +117,7 @@ impl<'a, R: Wait, G: Gate, C: Tokens> Site<'a, R, G, C> {
     // what is unsent goes out, as where nothing is below the worker's own limit. Answers whether
     // something was done.
     fn get_allowance<S: Spread>(&self, part: &mut Part<'_, S, C>) -> bool
-        requires { Holds S.owner_of C.workers part.old }
+        requires { IsSoundPart S.owner_of C.workers part.old }
         ensures { KeepsPart S.owner_of C.workers part.old part.new }
     {
         match self.ask(part) {

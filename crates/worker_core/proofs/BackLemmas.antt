@@ -11,10 +11,10 @@ use Rattle.board.specs.Equality.{move_eq, moves_Decide}
 use Rattle.search_keys.specs.SearchKeys.{search_key, HasSearchKey}
 use Rattle.board.specs.Moves.{Moves, successor}
 use Rattle.board.specs.Neighbours.{opposite}
-use Rattle.board.specs.Positions.{Position, IsBoard}
+use Rattle.board.specs.Boards.{BoardModel, IsBoard}
 use Rattle.board.proofs.MoveLemmas.{taken_back}
 use Rattle.board.proofs.NeighbourLemmas.{successor_moves}
-use Rattle.board.specs.Grids.{Grid}
+use Rattle.board.specs.Shapes.{ShapeModel}
 use Rattle.board.specs.declared.costs.TheConstants.{GREATEST_EXPANDED_COST}
 use Rattle.outcomes.specs.Outcomes.{Task}
 use Rattle.successor_sums.specs.Unpacked.{but}
@@ -32,8 +32,8 @@ use Rattle.world_model.proofs.ChangeLemmas.{with_insert}
 use Rattle.world_model.specs.declared.limits.TheConstants.{PACKET_LIMIT}
 use Rattle.world_model.specs.Costs.{limit_of}
 use Rattle.open_buckets.specs.declared.open.TheConstants.{GREATEST_F}
-use Rattle.closed_table.specs.Tables.{Table}
-use Rattle.search_lists.specs.Lists.{Lists, HasMoreRoom}
+use Rattle.closed_table.specs.Tables.{ClosedModel}
+use Rattle.search_lists.specs.Lists.{SearchListsModel, HasMoreRoom}
 use Rattle.search_lists.specs.declared.lists.Next.{Next}
 use Rattle.search_lists.specs.Orders.{Guide, IsInOrder, IsLeastOpen}
 use Rattle.search_lists.proofs.OrderLemmas.{order_with_room}
@@ -51,12 +51,12 @@ use Rattle.worker_core.proofs.GuideLemmas.{some_below}
 -- ---- the move back from a board that is expanded: what it leads to is no news, so it may be left out; what is left out
 
 -- What a move that is left out leads to is no news: a board that the worker owns, and knows at no more than it would be met at.
-abbrev IsNoNews : Role → WorkerState → Position → Known → Option Move → Type 0
+abbrev IsNoNews : Role → WorkerState → BoardModel → Known → Option Move → Type 0
 IsNoNews role worker b known None = ⊤
 IsNoNews role worker b known (Some back) =
-    (before : Position) × (c : ℕ) × (first : Known) × (successor role.task.rule b back ≡ Some (before, c)) × (role.owner before ≡ role.me) × KnowsAs worker before first × (first.cost ≤ known.cost + c)
+    (before : BoardModel) × (c : ℕ) × (first : Known) × (successor role.task.rule b back ≡ Some (before, c)) × (role.owner before ≡ role.me) × KnowsAs worker before first × (first.cost ≤ known.cost + c)
 
-module _ (role : Role) (b : Position) (cost : ℕ) (back : Move) (before : Position) (c : ℕ) (leads : successor role.task.rule b back ≡ Some (before, c)) (own : role.owner before ≡ role.me) where
+module _ (role : Role) (b : BoardModel) (cost : ℕ) (back : Move) (before : BoardModel) (c : ℕ) (leads : successor role.task.rule b back ≡ Some (before, c)) (own : role.owner before ≡ role.me) where
   abbrev items : Move → Option Item
   items = item_by role.task.rule b cost
 
@@ -75,7 +75,7 @@ module _ (role : Role) (b : Position) (cost : ℕ) (back : Move) (before : Posit
   -- so it changes nothing
   still : (w : WorkerState) → IsLow w → taken role w (items back) ≡ w
   still w low =
-      ap (λ (o : Option (Position × ℕ)). taken role w (option_map (λ (next : Position × ℕ). record { board = next.0; cost = cost + next.1; via = back }) o)) leads
+      ap (λ (o : Option (BoardModel × ℕ)). taken role w (option_map (λ (next : BoardModel × ℕ). record { board = next.0; cost = cost + next.1; via = back }) o)) leads
       ∙ cond-true _ _ _ (eq-eqb (role.owner before) role.me own)
       ∙ ap (λ (known : Knowledge). record w { known = known }) (no_news w.known low.0 low.1 low.2)
 
@@ -113,7 +113,7 @@ module _ (role : Role) (b : Position) (cost : ℕ) (back : Move) (before : Posit
       ∙ ap (λ (x : WorkerState). taken role (taken role (taken role x (kept L)) (kept R)) (kept D)) (one_same w U low)
 
 -- the board is known as cheaply after the one that is expanded was closed
-low_closed : (worker : WorkerState) (b : Position) (known : Known) (key c : ℕ) (first : Known) → map.get worker.known key ≡ Some first → first.cost ≤ known.cost + c → (old : Known) × (map.get (with_closure worker b known).known key ≡ Some old) × (old.cost ≤ known.cost + c)
+low_closed : (worker : WorkerState) (b : BoardModel) (known : Known) (key c : ℕ) (first : Known) → map.get worker.known key ≡ Some first → first.cost ≤ known.cost + c → (old : Known) × (map.get (with_closure worker b known).known key ≡ Some old) × (old.cost ≤ known.cost + c)
 low_closed worker b known key c first at low =
     ⊎_elim
     (λ same. (first, same ∙ at, low))
@@ -128,7 +128,7 @@ three_taken role worker items x y z =
     ∙ one_first role (taken role (taken role worker (items x)) (items y)) (items z) []
 
 -- an expansion by the moves but for one that is left out, if any is
-pub in_four_by : (role : Role) (worker : WorkerState) (b : Position) (known : Known) (left_out : Option Move) → expansion_by (moves_but left_out) role worker b known ≡ all_taken role (with_closure worker b known) (but left_out (item_by role.task.rule b known.cost))
+pub in_four_by : (role : Role) (worker : WorkerState) (b : BoardModel) (known : Known) (left_out : Option Move) → expansion_by (moves_but left_out) role worker b known ≡ all_taken role (with_closure worker b known) (but left_out (item_by role.task.rule b known.cost))
 in_four_by role worker b known None = in_four role worker b known
 in_four_by role worker b known (Some U) = three_taken role (with_closure worker b known) (item_by role.task.rule b known.cost) L R D
 in_four_by role worker b known (Some L) = three_taken role (with_closure worker b known) (item_by role.task.rule b known.cost) U R D
@@ -136,7 +136,7 @@ in_four_by role worker b known (Some R) = three_taken role (with_closure worker 
 in_four_by role worker b known (Some D) = three_taken role (with_closure worker b known) (item_by role.task.rule b known.cost) U L R
 
 -- an expansion, where what is no news is left out
-in_four_but : (role : Role) (worker : WorkerState) (b : Position) (known : Known) (left_out : Option Move) → IsNoNews role worker b known left_out → expansion role worker b known ≡ all_taken role (with_closure worker b known) (but left_out (item_by role.task.rule b known.cost))
+in_four_but : (role : Role) (worker : WorkerState) (b : BoardModel) (known : Known) (left_out : Option Move) → IsNoNews role worker b known left_out → expansion role worker b known ≡ all_taken role (with_closure worker b known) (but left_out (item_by role.task.rule b known.cost))
 in_four_but role worker b known None none = in_four role worker b known
 in_four_but role worker b known (Some back) (before, c, first, leads, own, knows, low) =
     in_four role worker b known
@@ -145,7 +145,7 @@ in_four_but role worker b known (Some back) (before, c, first, leads, own, knows
 -- ---- the move back
 
 -- where the worker owns all boards, and each was reached from a known one, the move back leads to no news
-back_is_no_news : (role : Role) (worker : WorkerState) (b : Position) (known : Known) (left_out : Option Move) → ((p : Position) → role.owner p ≡ role.me) → IsBoard b → b.grid ≡ role.task.rule.grid → KnowsAs worker b known → IfSome left_out (λ back. WereReached role.task.rule worker.known × (0 < known.cost) × (back ≡ opposite known.via)) → IsNoNews role worker b known left_out
+back_is_no_news : (role : Role) (worker : WorkerState) (b : BoardModel) (known : Known) (left_out : Option Move) → ((p : BoardModel) → role.owner p ≡ role.me) → IsBoard b → b.grid ≡ role.task.rule.grid → KnowsAs worker b known → IfSome left_out (λ back. WereReached role.task.rule worker.known × (0 < known.cost) × (back ≡ opposite known.via)) → IsNoNews role worker b known left_out
 back_is_no_news role worker b known None all board sides knows is = tt
 back_is_no_news role worker b known (Some back) all board sides knows (reached, later, is) =
     let from = reached b known board sides knows later in
@@ -167,8 +167,8 @@ back_has known P is =
 abbrev Leaves : Turn WorkerState Refusal → WorkerState → Type 0
 Leaves it made = Unless it (IsOverfull made) NoRoom (WithMemory it (Becomes it made))
 
-module _ (role : Role) (worker : WorkerState) (sides : role.task.rule.grid ≡ role.task.goal.grid) (all : (p : Position) → role.owner p ≡ role.me) (reached : WereReached role.task.rule worker.known) where
-  same_expansion : (b : Position) (known : Known) → IsNext role.task worker b known → expansion_by (moves_but (move_back known)) role worker b known ≡ expansion role worker b known
+module _ (role : Role) (worker : WorkerState) (sides : role.task.rule.grid ≡ role.task.goal.grid) (all : (p : BoardModel) → role.owner p ≡ role.me) (reached : WereReached role.task.rule worker.known) where
+  same_expansion : (b : BoardModel) (known : Known) → IsNext role.task worker b known → expansion_by (moves_but (move_back known)) role worker b known ≡ expansion role worker b known
   same_expansion b known next =
       let no_news =
       back_is_no_news role worker b known (move_back known) all next.opens.board.0 (next.opens.board.1 ∙ sym sides) next.opens.knows
@@ -191,11 +191,11 @@ step_for All role it step = step
 step_for Onward role it step = step
 
 -- the same, where what is lent was read
-pub step_lent : {S : Type 0} (owner_of : S → ℕ → Position → ℕ) (start : Position) (successors : Successors) (read context : ContextModel S) → read ≡ context → (it : Turn WorkerState Refusal) → ExpandStepBy (λ known. moves_but (left_out_by successors known)) (role_from owner_of start read) it → ExpandStepFor successors (role_from owner_of start context) it
+pub step_lent : {S : Type 0} (owner_of : S → ℕ → BoardModel → ℕ) (start : BoardModel) (successors : Successors) (read context : ContextModel S) → read ≡ context → (it : Turn WorkerState Refusal) → ExpandStepBy (λ known. moves_but (left_out_by successors known)) (role_from owner_of start read) it → ExpandStepFor successors (role_from owner_of start context) it
 step_lent {S} owner_of start successors read context same it step =
     step_for successors (role_from owner_of start context) it (subst (λ (x : ContextModel S). ExpandStepBy (λ known. moves_but (left_out_by successors known)) (role_from owner_of start x) it) same step)
 
-pub guided_read : {S : Type 0} (start start' : Position) (read context : ContextModel S) → read ≡ context → (guide : Guide) (lists : Lists) → IsGuided (task_from start context) guide lists → IsGuided (task_from start' read) guide lists
+pub guided_read : {S : Type 0} (start start' : BoardModel) (read context : ContextModel S) → read ≡ context → (guide : Guide) (lists : SearchListsModel) → IsGuided (task_from start context) guide lists → IsGuided (task_from start' read) guide lists
 guided_read {S} start start' read context same guide lists is =
     restarted start start' read.goal read.rule read.tables guide lists (subst (λ (x : ContextModel S). IsGuided (task_from start x) guide lists) (sym same) is)
 
@@ -222,7 +222,7 @@ lists_by worker item owned true = refl
 lists_by worker item owned false = length-set worker.unsent owned (unwrap_or (slice_get worker.unsent owned) [] ++ item ∷ [])
 
 -- the packets are as many, and the one that the item goes to has one more
-pub after_one : (role : Role) (worker : WorkerState) (n : ℕ) (sum : Position → ℕ) (item : Option Item) (offer : Option Offer) → IsOffered sum role.owner item offer → IfSome offer (λ some. some.owner < n) → length worker.unsent ≡ n → (length (taken role worker item).unsent ≡ n) × ((to : ℕ) → length (get_or (taken role worker item).unsent to []) ≡ length (get_or worker.unsent to []) + goes role.me to offer)
+pub after_one : (role : Role) (worker : WorkerState) (n : ℕ) (sum : BoardModel → ℕ) (item : Option Item) (offer : Option Offer) → IsOffered sum role.owner item offer → IfSome offer (λ some. some.owner < n) → length worker.unsent ≡ n → (length (taken role worker item).unsent ≡ n) × ((to : ℕ) → length (get_or (taken role worker item).unsent to []) ≡ length (get_or worker.unsent to []) + goes role.me to offer)
 after_one role worker n sum None None offered within lists = (lists, λ to. omega arith)
 after_one role worker n sum None (Some offer) offered within lists = absurd offered
 after_one role worker n sum (Some item) None offered within lists = absurd offered
@@ -259,7 +259,7 @@ at_any xs any =
 
 -- ---- an expansion
 
-module _ (role : Role) (worker : WorkerState) (b : Position) (known : Known) (left_out : Option Move) (sum : Position → ℕ) (offers : Offers) (offered : AreOffered sum role.owner (but left_out (item_by role.task.rule b known.cost)) offers) (grid : Grid) (n : ℕ) (within : OfEach (IsWithin grid known.cost n) offers) (lists : length worker.unsent ≡ n) where
+module _ (role : Role) (worker : WorkerState) (b : BoardModel) (known : Known) (left_out : Option Move) (sum : BoardModel → ℕ) (offers : Offers) (offered : AreOffered sum role.owner (but left_out (item_by role.task.rule b known.cost)) offers) (grid : ShapeModel) (n : ℕ) (within : OfEach (IsWithin grid known.cost n) offers) (lists : length worker.unsent ≡ n) where
   abbrev items_left : Move → Option Item
   items_left = but left_out (item_by role.task.rule b known.cost)
 
@@ -307,24 +307,24 @@ module _ (role : Role) (worker : WorkerState) (b : Position) (known : Known) (le
 -- ---- the board that is expanded, and what its moves offer
 
 -- the board is to be expanded, and this is what its moves offer to so many workers
-pub record IsChosen (role : Role) (worker : WorkerState) (b : Position) (known : Known) (successors : Successors) (left_out : Option Move) (offers : Offers) (workers : ℕ) : Type 0 where
+pub record IsChosen (role : Role) (worker : WorkerState) (b : BoardModel) (known : Known) (successors : Successors) (left_out : Option Move) (offers : Offers) (workers : ℕ) : Type 0 where
   pub waits : ¬ HasNothingBelow role.task worker (limit_of worker.best)
   pub at : IsNext role.task worker b known
   pub left_out_is : left_out ≡ left_out_by successors known
   pub offered : AreOffered role.task.sum role.owner (but left_out (item_by role.task.rule b known.cost)) offers
   pub within : OfEach (IsWithin role.task.goal.grid known.cost workers) offers
 
-pub chosen : (task : Task) (guide : Guide) (lists : Lists) (is : IsGuided task guide lists) (worker : WorkerState) (same : lists.closed.known ≡ worker.known) (owner_among : ℕ → Position → ℕ) (n workers me : ℕ) (all : n ≡ workers) (limit : ℕ) (limit_is : limit ≡ limit_of worker.best) (next : Next) (first : IsLeastOpen guide lists.closed next) (below : next.f < limit) (b : Position) (grid : Grid) (sides : grid ≡ task.goal.grid) (has : HasSearchKey grid next.key b) (successors : Successors) (left_out : Option Move) (back : (known : Known) → known.cost ≡ next.cost → known.via ≡ next.via → left_out ≡ left_out_by successors known) (offers : Offers) (offered : AreOffered task.sum (λ p. owner_among n p) (but left_out (item_by task.rule b next.cost)) offers) (within : OfEach (IsWithin b.grid next.cost n) offers) → IsChosen (role_by task owner_among workers me) worker b first.opens.0 successors left_out offers workers
+pub chosen : (task : Task) (guide : Guide) (lists : SearchListsModel) (is : IsGuided task guide lists) (worker : WorkerState) (same : lists.closed.known ≡ worker.known) (owner_among : ℕ → BoardModel → ℕ) (n workers me : ℕ) (all : n ≡ workers) (limit : ℕ) (limit_is : limit ≡ limit_of worker.best) (next : Next) (first : IsLeastOpen guide lists.closed next) (below : next.f < limit) (b : BoardModel) (grid : ShapeModel) (sides : grid ≡ task.goal.grid) (has : HasSearchKey grid next.key b) (successors : Successors) (left_out : Option Move) (back : (known : Known) → known.cost ≡ next.cost → known.via ≡ next.via → left_out ≡ left_out_by successors known) (offers : Offers) (offered : AreOffered task.sum (λ p. owner_among n p) (but left_out (item_by task.rule b next.cost)) offers) (within : OfEach (IsWithin b.grid next.cost n) offers) → IsChosen (role_by task owner_among workers me) worker b first.opens.0 successors left_out offers workers
 chosen task guide lists is worker same owner_among n workers me all limit limit_is next first below b grid sides has successors left_out back offers offered within = record {
   waits = λ none. some_below task guide lists worker same is limit next first below (subst (HasNothingBelow task worker) (sym limit_is) none);
-  at = is_next task guide lists worker same is next first b (subst (λ (g : Grid). HasSearchKey g next.key b) sides has);
+  at = is_next task guide lists worker same is next first b (subst (λ (g : ShapeModel). HasSearchKey g next.key b) sides has);
   left_out_is = back first.opens.0 first.opens.2 first.opens.3;
   offered = subst (λ (x : ℕ × ℕ). AreOffered task.sum (λ p. owner_among x.0 p) (but left_out (item_by task.rule b x.1)) offers) (λ t. (all t, sym first.opens.2 t)) offered;
-  within = subst (λ (x : Grid × (ℕ × ℕ)). OfEach (IsWithin x.0 x.1.0 x.1.1) offers) (λ t. ((has.sides ∙ sides) t, (sym first.opens.2 t, all t))) within;
+  within = subst (λ (x : ShapeModel × (ℕ × ℕ)). OfEach (IsWithin x.0 x.1.0 x.1.1) offers) (λ t. ((has.sides ∙ sides) t, (sym first.opens.2 t, all t))) within;
 }
 
 -- what is below the limit costs no more than a board that is expanded
-pub cost_low : (guide : Guide) (closed : Table) (next : Next) (limit : ℕ) (best : Option ℕ) → IsLeastOpen guide closed next → next.f < limit → limit ≡ limit_of best → next.cost ≤ GREATEST_EXPANDED_COST
+pub cost_low : (guide : Guide) (closed : ClosedModel) (next : Next) (limit : ℕ) (best : Option ℕ) → IsLeastOpen guide closed next → next.f < limit → limit ≡ limit_of best → next.cost ≤ GREATEST_EXPANDED_COST
 cost_low guide closed next limit best first below is =
     let adds = first.adds in
     let most = at_most best in
@@ -335,7 +335,7 @@ cost_low guide closed next limit best first below is =
     at_most (Some cost) = omega arith
 
 -- what its cost leaves of its cost plus sum is its sum
-pub sum_there : (task : Task) (guide : Guide) (lists : Lists) → IsGuided task guide lists → (next : Next) → IsLeastOpen guide lists.closed next → (b : Position) (grid : Grid) → grid ≡ task.goal.grid → HasSearchKey grid next.key b → next.f - next.cost ≡ task.sum b
+pub sum_there : (task : Task) (guide : Guide) (lists : SearchListsModel) → IsGuided task guide lists → (next : Next) → IsLeastOpen guide lists.closed next → (b : BoardModel) (grid : ShapeModel) → grid ≡ task.goal.grid → HasSearchKey grid next.key b → next.f - next.cost ≡ task.sum b
 sum_there task guide lists is next first b grid sides has =
     let sum = is.guides.sums b (has.board, has.sides ∙ sides) in
     let key : guide.sum (search_key b) ≡ guide.sum next.key = ap guide.sum has.packed in
@@ -352,7 +352,7 @@ sum_low next limit best below is =
     at_most (Some cost) = omega arith
 
 -- so what is offered can wait
-pub all_low : (grid : Grid) (cost n : ℕ) (offers : Offers) → cost ≤ GREATEST_EXPANDED_COST → OfEach (IsWithin grid cost n) offers → OfEach (λ offer. offer.f ≤ GREATEST_F) offers
+pub all_low : (grid : ShapeModel) (cost n : ℕ) (offers : Offers) → cost ≤ GREATEST_EXPANDED_COST → OfEach (IsWithin grid cost n) offers → OfEach (λ offer. offer.f ≤ GREATEST_F) offers
 all_low grid cost n offers low within =
     (one offers.up within.0, one offers.left within.1, one offers.right within.2, one offers.down within.3)
   where
@@ -360,13 +360,13 @@ all_low grid cost n offers low within =
     one offer is = if_some (IsWithin grid cost n) (λ some. some.f ≤ GREATEST_F) (λ some in_it. let high = in_it.low in omega (arith, low, high)) offer is
 
 -- the lists stay guided where the next board was found, and where places were made
-pub guided_by_next : (task : Task) (guide : Guide) (lists found : Lists) → IsGuided task guide lists → found.closed ≡ lists.closed → (IsInOrder guide lists → IsInOrder guide found) → IsGuided task guide found
-guided_by_next task guide lists found is closed order = guided_same task guide lists found is (ap (λ (t : Table). t.known) closed) (order is.order)
+pub guided_by_next : (task : Task) (guide : Guide) (lists found : SearchListsModel) → IsGuided task guide lists → found.closed ≡ lists.closed → (IsInOrder guide lists → IsInOrder guide found) → IsGuided task guide found
+guided_by_next task guide lists found is closed order = guided_same task guide lists found is (ap (λ (t : ClosedModel). t.known) closed) (order is.order)
 
-pub guided_with_room : (task : Task) (guide : Guide) (old new : Lists) → IsGuided task guide old → HasMoreRoom old new → IsGuided task guide new
+pub guided_with_room : (task : Task) (guide : Guide) (old new : SearchListsModel) → IsGuided task guide old → HasMoreRoom old new → IsGuided task guide new
 guided_with_room task guide old new is more = guided_same task guide old new is more.known (order_with_room guide old new more is.order)
 
 -- what is offered adds up
-pub chosen_adds : (role : Role) (guide : Guide) (lists : Lists) (is : IsGuided role.task guide lists) (worker : WorkerState) (b : Position) (known : Known) (successors : Successors) (left_out : Option Move) (offers : Offers) (n : ℕ) → IsChosen role worker b known successors left_out offers n → known.cost ≤ GREATEST_EXPANDED_COST → OfEach (AddsUpBy guide) offers
+pub chosen_adds : (role : Role) (guide : Guide) (lists : SearchListsModel) (is : IsGuided role.task guide lists) (worker : WorkerState) (b : BoardModel) (known : Known) (successors : Successors) (left_out : Option Move) (offers : Offers) (n : ℕ) → IsChosen role worker b known successors left_out offers n → known.cost ≤ GREATEST_EXPANDED_COST → OfEach (AddsUpBy guide) offers
 chosen_adds role guide lists is worker b known successors left_out offers n it low =
     all_add role.task guide role.owner b known.cost n role.task.goal.grid is.guides it.at.opens.board low left_out offers it.offered it.within

@@ -7,18 +7,18 @@ use Rattle.std.proofs.lemmas.Option.{unwrap_or-slice_get}
 use Rattle.std.specs.FinMap as map
 use Rattle.std.specs.List.{cons_option}
 use Rattle.board.specs.declared.moves.Move.{Move}
-use Rattle.board.specs.Grids.{Grid}
+use Rattle.board.specs.Shapes.{ShapeModel}
 use Rattle.search_keys.specs.SearchKeys.{search_key, HasSearchKey}
-use Rattle.board.specs.Positions.{Position, IsBoard}
+use Rattle.board.specs.Boards.{BoardModel, IsBoard}
 use Rattle.search_keys.proofs.SearchKeyLemmas.{one_board as same_board}
 use Rattle.board.specs.declared.moves.Move.TheVariants.{U, L, R, D}
 use Rattle.board.specs.declared.costs.TheConstants.{GREATEST_EXPANDED_COST}
-use Rattle.board.specs.CostRules.{CostRule}
+use Rattle.board.specs.Weights.{WeightsModel}
 use Rattle.board.specs.Moves.{Moves, successor}
 use Rattle.board.proofs.MoveLemmas.{moved_board}
 use Rattle.board.proofs.NeighbourLemmas.{successor_moves}
 use Rattle.outcomes.specs.Outcomes.{Task}
-use Rattle.lower_bound.specs.Tables.{Tables}
+use Rattle.lower_bound.specs.Tables.{BoundModel}
 use Rattle.successor_sums.specs.ByMoves.{before, entries_of, of_move}
 use Rattle.successor_sums.specs.Unpacked.{is_left_out, but}
 use Rattle.world_model.specs.declared.parts.Item.{Item}
@@ -28,9 +28,9 @@ use Rattle.world_model.specs.Expansions.{with_successor, with_closure, expansion
 use Rattle.world_model.specs.Workers.{WorkerState, Packet, Role, IsTaskBoard, IsOpen, IsNext}
 use Rattle.world_model.proofs.ChangeLemmas.{with_insert}
 use Rattle.open_buckets.specs.OpenLists.{places_at}
-use Rattle.closed_table.specs.Tables.{Table, table_relaxation, table_closure, room_after}
+use Rattle.closed_table.specs.Tables.{ClosedModel, table_relaxation, table_closure, room_after}
 use Rattle.search_lists.specs.declared.lists.Met.{Met}
-use Rattle.search_lists.specs.Lists.{Lists, HasMoreRoom}
+use Rattle.search_lists.specs.Lists.{SearchListsModel, HasMoreRoom}
 use Rattle.search_lists.specs.Orders.{Guide, IsInOrder, AddsUp, IsLeastOpen, NoneBelow}
 use Rattle.search_lists.specs.declared.lists.Next.{Next}
 use Rattle.offers.specs.declared.offer.Offer.{Offer}
@@ -78,16 +78,16 @@ room_left : (known : Option Known) (room : ℕ) → room ≤ room_after known ro
 room_left None room = omega arith
 room_left (Some known) room = omega arith
 
-module _ (me : ℕ) (grid : Grid) (lists : Lists) (unsent : List Packet) (rest : List (Option Offer)) where
+module _ (me : ℕ) (grid : ShapeModel) (lists : SearchListsModel) (unsent : List Packet) (rest : List (Option Offer)) where
   module _ (offer : Offer) (ready : IsReady me grid (stock lists unsent) (Some offer ∷ rest)) where
     -- an own board was relaxed
-    pub ready_own : (lists' : Lists) (key cost : ℕ) (via : Move) → lists'.closed ≡ table_relaxation lists.closed key cost via → ((h : ℕ) → places_at lists.waiting h ≤ places_at lists'.waiting h + 1) → IsReady me grid (stock lists' unsent) rest
+    pub ready_own : (lists' : SearchListsModel) (key cost : ℕ) (via : Move) → lists'.closed ≡ table_relaxation lists.closed key cost via → ((h : ℕ) → places_at lists.waiting h ≤ places_at lists'.waiting h + 1) → IsReady me grid (stock lists' unsent) rest
     ready_own lists' key cost via relaxed places = record {
       there = ready.there.1;
       keys = ready.keys.1;
       boards =
           let few = ready.boards in
-          let room : lists'.closed.room ≡ room_after (map.get lists.closed.known key) lists.closed.room = ap (λ (t : Table). t.room) relaxed in
+          let room : lists'.closed.room ≡ room_after (map.get lists.closed.known key) lists.closed.room = ap (λ (t : ClosedModel). t.room) relaxed in
           let left = room_left (map.get lists.closed.known key) lists.closed.room in
           omega (arith, few, room, left);
       places =
@@ -135,7 +135,7 @@ module _ (me : ℕ) (grid : Grid) (lists : Lists) (unsent : List Packet) (rest :
         same = length-set unsent offer.owner (get_or unsent offer.owner [] ++ item ∷ [])
 
   -- more places are no less
-  pub ready_with_room : (lists' : Lists) → lists.closed.room ≤ lists'.closed.room → ((h : ℕ) → places_at lists.waiting h ≤ places_at lists'.waiting h) → IsReady me grid (stock lists unsent) rest → IsReady me grid (stock lists' unsent) rest
+  pub ready_with_room : (lists' : SearchListsModel) → lists.closed.room ≤ lists'.closed.room → ((h : ℕ) → places_at lists.waiting h ≤ places_at lists'.waiting h) → IsReady me grid (stock lists unsent) rest → IsReady me grid (stock lists' unsent) rest
   ready_with_room lists' boards places ready = record {
     there = ready.there;
     keys = ready.keys;
@@ -152,8 +152,8 @@ module _ (me : ℕ) (grid : Grid) (lists : Lists) (unsent : List Packet) (rest :
 
 -- ---- what becomes of the worker
 
-module _ (role : Role) (worker : WorkerState) (sum : Position → ℕ) (item : Item) (offer : Offer) (is : IsOfferOf sum role.owner item offer) where
-  other_taken : (via : Move) → item.via ≡ via → (b : Position) → HasSearchKey item.board.grid offer.key b → IsBoard item.board → offer.owner ≢ role.me → record worker { unsent = put worker.unsent offer.owner (record { board = b; cost = offer.cost; via = via }) } ≡ with_successor role worker item
+module _ (role : Role) (worker : WorkerState) (sum : BoardModel → ℕ) (item : Item) (offer : Offer) (is : IsOfferOf sum role.owner item offer) where
+  other_taken : (via : Move) → item.via ≡ via → (b : BoardModel) → HasSearchKey item.board.grid offer.key b → IsBoard item.board → offer.owner ≢ role.me → record worker { unsent = put worker.unsent offer.owner (record { board = b; cost = offer.cost; via = via }) } ≡ with_successor role worker item
   other_taken via last b has board other =
       let same : b ≡ item.board = same_board b item.board has.board board has.sides (has.packed ∙ is.key) in
       (λ t. record worker { unsent = put worker.unsent (is.owned t) (record { board = same t; cost = is.cost t; via = sym last t }) })
@@ -161,36 +161,36 @@ module _ (role : Role) (worker : WorkerState) (sum : Position → ℕ) (item : I
       ∙ sym (cond-false _ _ _ (ne_eqb (role.owner item.board) role.me (λ own. other (is.owned ∙ own))))
 
 -- the same, where an offer is there
-pub other_option : (role : Role) (worker : WorkerState) (sum : Position → ℕ) (item : Option Item) (offer : Offer) → IsOffered sum role.owner item (Some offer) → (grid : Grid) → IfSome item (λ i. IsBoard i.board × (i.board.grid ≡ grid)) → (via : Move) → IfSome item (λ i. i.via ≡ via) → (b : Position) → HasSearchKey grid offer.key b → offer.owner ≢ role.me → (unsent' : List Packet) → unsent' ≡ put worker.unsent offer.owner (record { board = b; cost = offer.cost; via = via }) → record worker { unsent = unsent' } ≡ taken role worker item
+pub other_option : (role : Role) (worker : WorkerState) (sum : BoardModel → ℕ) (item : Option Item) (offer : Offer) → IsOffered sum role.owner item (Some offer) → (grid : ShapeModel) → IfSome item (λ i. IsBoard i.board × (i.board.grid ≡ grid)) → (via : Move) → IfSome item (λ i. i.via ≡ via) → (b : BoardModel) → HasSearchKey grid offer.key b → offer.owner ≢ role.me → (unsent' : List Packet) → unsent' ≡ put worker.unsent offer.owner (record { board = b; cost = offer.cost; via = via }) → record worker { unsent = unsent' } ≡ taken role worker item
 other_option role worker sum None offer is grid board via last b has other unsent' at = absurd is
 other_option role worker sum (Some item) offer is grid board via last b has other unsent' at =
     ap (λ (unsent : List Packet). record worker { unsent = unsent }) at
-    ∙ other_taken role worker sum item offer is via last b (subst (λ (g : Grid). HasSearchKey g offer.key b) (sym board.1) has) board.0 other
+    ∙ other_taken role worker sum item offer is via last b (subst (λ (g : ShapeModel). HasSearchKey g offer.key b) (sym board.1) has) board.0 other
 
 -- ---- what the lists are led by
 
 abbrev got : ℕ → Knowledge → Option Known
 got key m = map.get m key
 
-module _ (task : Task) (known : Knowledge) (all : (key : ℕ) (k : Known) → map.get known key ≡ Some k → (b : Position) × IsTaskBoard task b × (search_key b ≡ key)) (key : ℕ) (here : (b : Position) × IsTaskBoard task b × (search_key b ≡ key)) where
+module _ (task : Task) (known : Knowledge) (all : (key : ℕ) (k : Known) → map.get known key ≡ Some k → (b : BoardModel) × IsTaskBoard task b × (search_key b ≡ key)) (key : ℕ) (here : (b : BoardModel) × IsTaskBoard task b × (search_key b ≡ key)) where
   -- all known keys are those of boards, with one more
-  inserted_boards : (v : Known) (q : ℕ) (k : Known) → map.get (map.insert known key v) q ≡ Some k → (b : Position) × IsTaskBoard task b × (search_key b ≡ q)
+  inserted_boards : (v : Known) (q : ℕ) (k : Known) → map.get (map.insert known key v) q ≡ Some k → (b : BoardModel) × IsTaskBoard task b × (search_key b ≡ q)
   inserted_boards v q k at =
       ⊎_elim
       (λ as_before. all q k (sym as_before ∙ at))
       (λ new. (here.0, here.1, here.2 ∙ sym new.0))
       (with_insert known key q v)
 
-  pub relaxed_boards : (cost : ℕ) (via : Move) (q : ℕ) (k : Known) → map.get (relaxation_at known key cost via) q ≡ Some k → (b : Position) × IsTaskBoard task b × (search_key b ≡ q)
+  pub relaxed_boards : (cost : ℕ) (via : Move) (q : ℕ) (k : Known) → map.get (relaxation_at known key cost via) q ≡ Some k → (b : BoardModel) × IsTaskBoard task b × (search_key b ≡ q)
   relaxed_boards cost via q k at =
       ⊎_elim
       (λ (news : is_news (map.get known key) cost ≡ true). inserted_boards (record { cost = cost; expanded = false; via = via }) q k (sym (ap (got q) (cond-true _ _ _ news)) ∙ at))
       (λ (old : is_news (map.get known key) cost ≡ false). all q k (sym (ap (got q) (cond-false _ _ _ old)) ∙ at))
       (cases_Bool (is_news (map.get known key) cost))
 
-module _ (task : Task) (guide : Guide) (lists lists' : Lists) (is : IsGuided task guide lists) where
+module _ (task : Task) (guide : Guide) (lists lists' : SearchListsModel) (is : IsGuided task guide lists) where
   -- where a board was relaxed
-  guided_relaxed : (key cost : ℕ) (via : Move) → (b : Position) → HasSearchKey task.goal.grid key b → lists'.closed ≡ table_relaxation lists.closed key cost via → IsInOrder guide lists' → IsGuided task guide lists'
+  guided_relaxed : (key cost : ℕ) (via : Move) → (b : BoardModel) → HasSearchKey task.goal.grid key b → lists'.closed ≡ table_relaxation lists.closed key cost via → IsInOrder guide lists' → IsGuided task guide lists'
   guided_relaxed key cost via b has relaxed order = record {
     guides = is.guides;
     order = order;
@@ -198,7 +198,7 @@ module _ (task : Task) (guide : Guide) (lists lists' : Lists) (is : IsGuided tas
   }
 
   -- where an own board was met, that adds up
-  pub guided_met : (offer : Offer) (via : Move) (met : Met) → met ≡ record { key = offer.key; cost = offer.cost; via = via; f = offer.f } → AddsUpBy guide offer → (b : Position) → HasSearchKey task.goal.grid offer.key b → lists'.closed ≡ table_relaxation lists.closed met.key met.cost met.via → (AddsUp guide met → IsInOrder guide lists → IsInOrder guide lists') → IsGuided task guide lists'
+  pub guided_met : (offer : Offer) (via : Move) (met : Met) → met ≡ record { key = offer.key; cost = offer.cost; via = via; f = offer.f } → AddsUpBy guide offer → (b : BoardModel) → HasSearchKey task.goal.grid offer.key b → lists'.closed ≡ table_relaxation lists.closed met.key met.cost met.via → (AddsUp guide met → IsInOrder guide lists → IsInOrder guide lists') → IsGuided task guide lists'
   guided_met offer via met same adds b has relaxed order =
       let adds_up : AddsUp guide met = subst (λ (m : Met). AddsUp guide m) (sym same) (record { adds = adds.0; within = adds.1 }) in
       guided_relaxed offer.key offer.cost via b has (relaxed ∙ ap (λ (m : Met). table_relaxation lists.closed m.key m.cost m.via) same) (order adds_up is.order)
@@ -292,10 +292,10 @@ module _ (offers : Offers) where
       omega (arith, up, left, right, down)
 
   -- what can take what all moves offer can take what the entries do
-  pub ready_entries : (me : ℕ) (grid : Grid) (lists : Lists) (unsent : List Packet) → IsReady me grid (stock lists unsent) (in_turn offers) → IsReady me grid (stock lists unsent) (offered_in (entries_of offers))
+  pub ready_entries : (me : ℕ) (grid : ShapeModel) (lists : SearchListsModel) (unsent : List Packet) → IsReady me grid (stock lists unsent) (in_turn offers) → IsReady me grid (stock lists unsent) (offered_in (entries_of offers))
   ready_entries me grid lists unsent ready = record {
     there = entries_all (λ offer. offer.owner < length unsent) ready.there;
-    keys = entries_all (λ offer. (b : Position) × HasSearchKey grid offer.key b) ready.keys;
+    keys = entries_all (λ offer. (b : BoardModel) × HasSearchKey grid offer.key b) ready.keys;
     boards = let few = entries_few in let places = ready.boards in omega (arith, few, places);
     places =
         entries_all (λ offer. offer.owner ≡ me → length (offered_in (entries_of offers)) ≤ places_at lists.waiting offer.f)
@@ -315,7 +315,7 @@ abbrev pub entries_taken : Role → (Move → Option Item) → WorkerState → L
 entries_taken role items worker [] = worker
 entries_taken role items worker (entry ∷ rest) = entries_taken role items (taken role worker (items entry.0)) rest
 
-module _ (role : Role) (sum : Position → ℕ) (items : Move → Option Item) where
+module _ (role : Role) (sum : BoardModel → ℕ) (items : Move → Option Item) where
   none_taken : (worker : WorkerState) (item : Option Item) → IsOffered sum role.owner item None → taken role worker item ≡ worker
   none_taken worker None offered = refl
   none_taken worker (Some item) offered = absurd offered
@@ -349,7 +349,7 @@ module _ (role : Role) (sum : Position → ℕ) (items : Move → Option Item) w
 
 -- ---- room
 
-pub more_room : (one two three : Lists) → HasMoreRoom one two → HasMoreRoom two three → HasMoreRoom one three
+pub more_room : (one two three : SearchListsModel) → HasMoreRoom one two → HasMoreRoom two three → HasMoreRoom one three
 more_room one two three first second = record {
   keys = second.keys ∙ first.keys;
   known = second.known ∙ first.known;
@@ -359,10 +359,10 @@ more_room one two three first second = record {
 }
 
 -- the same of the first entries
-abbrev pub HavePlaces : ℕ → Lists → Offers → ℕ → Type 0
+abbrev pub HavePlaces : ℕ → SearchListsModel → Offers → ℕ → Type 0
 HavePlaces me lists offers count = (i : ℕ) (d : Move × Offer) → i < count → HasPlaces me lists (get_or (entries_of offers) i d).1
 
-pub places_on : (me : ℕ) (offers : Offers) (count : ℕ) (entry : Move × Offer) → ((d : Move × Offer) → get_or (entries_of offers) count d ≡ entry) → (old new : Lists) → HasMoreRoom old new → HavePlaces me old offers count → HasPlaces me new entry.1 → HavePlaces me new offers (count + 1)
+pub places_on : (me : ℕ) (offers : Offers) (count : ℕ) (entry : Move × Offer) → ((d : Move × Offer) → get_or (entries_of offers) count d ≡ entry) → (old new : SearchListsModel) → HasMoreRoom old new → HavePlaces me old offers count → HasPlaces me new entry.1 → HavePlaces me new offers (count + 1)
 places_on me offers count entry is old new more before here i d within =
     ⊎_elim
     (λ (same : i ≡ count). subst (λ (e : Move × Offer). HasPlaces me new e.1) (sym (ap (λ (k : ℕ). get_or (entries_of offers) k d) same ∙ is d)) here)
@@ -373,29 +373,29 @@ places_on me offers count entry is old new more before here i d within =
     (cases_eq i count)
 
 -- places were made at an entry that this worker owns, and nowhere else
-pub same_elsewhere : (me h : ℕ) (old new : Lists) (offer : Offer) → (offer.owner ≢ me → new ≡ old) → ((k : ℕ) → k ≢ offer.f → places_at new.waiting k ≡ places_at old.waiting k) → (offer.owner ≡ me → offer.f ≢ h) → places_at new.waiting h ≡ places_at old.waiting h
+pub same_elsewhere : (me h : ℕ) (old new : SearchListsModel) (offer : Offer) → (offer.owner ≢ me → new ≡ old) → ((k : ℕ) → k ≢ offer.f → places_at new.waiting k ≡ places_at old.waiting k) → (offer.owner ≡ me → offer.f ≢ h) → places_at new.waiting h ≡ places_at old.waiting h
 same_elsewhere me h old new offer other others apart =
     ⊎_elim
     (λ (own : offer.owner ≡ me). others h (λ is. apart own (sym is)))
-    (λ (foreign : offer.owner ≢ me). ap (λ (lists : Lists). places_at lists.waiting h) (other foreign))
+    (λ (foreign : offer.owner ≢ me). ap (λ (lists : SearchListsModel). places_at lists.waiting h) (other foreign))
     (cases_eq offer.owner me)
 
 -- where places were wanting at an entry, they were wanting before
-pub still_wanting : (me : ℕ) (old new : Lists) (offer : Offer) → HasMoreRoom old new → ¬ HasPlaces me new offer → ¬ HasPlaces me old offer
+pub still_wanting : (me : ℕ) (old new : SearchListsModel) (offer : Offer) → HasMoreRoom old new → ¬ HasPlaces me new offer → ¬ HasPlaces me old offer
 still_wanting me old new offer more wanting here = wanting (λ own. let places = here own in let no_less = more.places offer.f in omega (arith, places, no_less))
 
 -- where the lists have no fewer places later, what is there already is there then
-more_at : (me : ℕ) (old new : Lists) → ((h : ℕ) → places_at old.waiting h ≤ places_at new.waiting h) → (o : Option Offer) → IfSome o (HasPlaces me old) → IfSome o (HasPlaces me new)
+more_at : (me : ℕ) (old new : SearchListsModel) → ((h : ℕ) → places_at old.waiting h ≤ places_at new.waiting h) → (o : Option Offer) → IfSome o (HasPlaces me old) → IfSome o (HasPlaces me new)
 more_at me old new more None has = tt
 more_at me old new more (Some offer) has = λ own. let here = has own in let no_less = more offer.f in omega (arith, here, no_less)
 
 -- so where there are too few later, there were too few before
-pub lacking_before : (me : ℕ) (old new : Lists) (offers : Offers) → new.closed ≡ old.closed → ((h : ℕ) → places_at old.waiting h ≤ places_at new.waiting h) → ¬ HasAllPlaces me new offers → ¬ HasAllPlaces me old offers
+pub lacking_before : (me : ℕ) (old new : SearchListsModel) (offers : Offers) → new.closed ≡ old.closed → ((h : ℕ) → places_at old.waiting h ≤ places_at new.waiting h) → ¬ HasAllPlaces me new offers → ¬ HasAllPlaces me old offers
 lacking_before me old new offers closed more lacking all =
-    lacking (subst (λ (t : Table). 4 ≤ t.room) (sym closed) all.0, (more_at me old new more offers.up all.1.0, more_at me old new more offers.left all.1.1, more_at me old new more offers.right all.1.2, more_at me old new more offers.down all.1.3))
+    lacking (subst (λ (t : ClosedModel). 4 ≤ t.room) (sym closed) all.0, (more_at me old new more offers.up all.1.0, more_at me old new more offers.left all.1.1, more_at me old new more offers.right all.1.2, more_at me old new more offers.down all.1.3))
 
 -- and of all entries
-pub places_for_all : (me : ℕ) (lists : Lists) (offers : Offers) (count : ℕ) → length (entries_of offers) ≤ count → HavePlaces me lists offers count → OfEach (λ offer. offer.owner ≡ me → 4 ≤ places_at lists.waiting offer.f) offers
+pub places_for_all : (me : ℕ) (lists : SearchListsModel) (offers : Offers) (count : ℕ) → length (entries_of offers) ≤ count → HavePlaces me lists offers count → OfEach (λ offer. offer.owner ≡ me → 4 ≤ places_at lists.waiting offer.f) offers
 places_for_all me lists offers count all places =
     let d : Move × Offer = (U, record { key = 0; cost = 0; f = 0; owner = 0 }) in
     entries_give offers d (HasPlaces me lists) (λ i within. places i d (omega (arith, within, all)))
@@ -414,18 +414,18 @@ four_taken role worker items =
     ∙ one_first role (taken role (taken role worker (items U)) (items L)) (items R) _
     ∙ one_first role (taken role (taken role (taken role worker (items U)) (items L)) (items R)) (items D) []
 
-pub in_four : (role : Role) (worker : WorkerState) (b : Position) (known : Known) → expansion role worker b known ≡ taken role (taken role (taken role (taken role (with_closure worker b known) (item_by role.task.rule b known.cost U)) (item_by role.task.rule b known.cost L)) (item_by role.task.rule b known.cost R)) (item_by role.task.rule b known.cost D)
+pub in_four : (role : Role) (worker : WorkerState) (b : BoardModel) (known : Known) → expansion role worker b known ≡ taken role (taken role (taken role (taken role (with_closure worker b known) (item_by role.task.rule b known.cost U)) (item_by role.task.rule b known.cost L)) (item_by role.task.rule b known.cost R)) (item_by role.task.rule b known.cost D)
 in_four role worker b known = four_taken role (with_closure worker b known) (item_by role.task.rule b known.cost)
 
 -- a successor of a board is a board with its sides
-pub item_board : (rule : CostRule) (b : Position) (cost : ℕ) (m : Move) (grid : Grid) → IsBoard b → b.grid ≡ grid → IfSome (item_by rule b cost m) (λ item. IsBoard item.board × (item.board.grid ≡ grid))
+pub item_board : (rule : WeightsModel) (b : BoardModel) (cost : ℕ) (m : Move) (grid : ShapeModel) → IsBoard b → b.grid ≡ grid → IfSome (item_by rule b cost m) (λ item. IsBoard item.board × (item.board.grid ≡ grid))
 item_board rule b cost m grid board sides = there (successor rule b m) refl
   where
-    there : (o : Option (Position × ℕ)) → successor rule b m ≡ o → IfSome (option_map (λ (next : Position × ℕ). record { board = next.0; cost = cost + next.1; via = m }) o) (λ (item : Item). IsBoard item.board × (item.board.grid ≡ grid))
+    there : (o : Option (BoardModel × ℕ)) → successor rule b m ≡ o → IfSome (option_map (λ (next : BoardModel × ℕ). record { board = next.0; cost = cost + next.1; via = m }) o) (λ (item : Item). IsBoard item.board × (item.board.grid ≡ grid))
     there None is = tt
     there (Some next) is =
         let moves : Moves rule b m next.0 next.1 = (successor_moves rule b m next.0 next.1 board).0 is in
-        (moved_board rule b board m next.0 next.1 moves, ap (λ (p : Position). p.grid) moves.after ∙ sides)
+        (moved_board rule b board m next.0 next.1 moves, ap (λ (p : BoardModel). p.grid) moves.after ∙ sides)
 
 -- what is made of each move has this, where what is made of all moves has
 pub each_but : {A : Type 0} (P : A → Type 0) (left_out : Option Move) (made : Move → Option A) (m : Move) → IfSome (made m) P → IfSome (but left_out made m) P
@@ -436,40 +436,40 @@ each_but P left_out made m is =
     (cases_Bool (is_left_out left_out m))
 
 -- a successor of a board is a board with its sides, and what is left out is none
-pub item_board_but : (rule : CostRule) (b : Position) (cost : ℕ) (left_out : Option Move) (m : Move) (grid : Grid) → IsBoard b → b.grid ≡ grid → IfSome (but left_out (item_by rule b cost) m) (λ item. IsBoard item.board × (item.board.grid ≡ grid))
+pub item_board_but : (rule : WeightsModel) (b : BoardModel) (cost : ℕ) (left_out : Option Move) (m : Move) (grid : ShapeModel) → IsBoard b → b.grid ≡ grid → IfSome (but left_out (item_by rule b cost) m) (λ item. IsBoard item.board × (item.board.grid ≡ grid))
 item_board_but rule b cost left_out m grid board sides = each_but (λ item. IsBoard item.board × (item.board.grid ≡ grid)) left_out (item_by rule b cost) m (item_board rule b cost m grid board sides)
 
 -- the last move to a successor is the one by which it is made
-pub item_via_but : (rule : CostRule) (b : Position) (cost : ℕ) (left_out : Option Move) (m : Move) → IfSome (but left_out (item_by rule b cost) m) (λ item. item.via ≡ m)
+pub item_via_but : (rule : WeightsModel) (b : BoardModel) (cost : ℕ) (left_out : Option Move) (m : Move) → IfSome (but left_out (item_by rule b cost) m) (λ item. item.via ≡ m)
 item_via_but rule b cost left_out m = each_but (λ (item : Item). item.via ≡ m) left_out (item_by rule b cost) m (there (successor rule b m))
   where
-    there : (o : Option (Position × ℕ)) → IfSome (option_map (λ (next : Position × ℕ). record { board = next.0; cost = cost + next.1; via = m }) o) (λ (item : Item). item.via ≡ m)
+    there : (o : Option (BoardModel × ℕ)) → IfSome (option_map (λ (next : BoardModel × ℕ). record { board = next.0; cost = cost + next.1; via = m }) o) (λ (item : Item). item.via ≡ m)
     there None = tt
     there (Some next) = refl
 
 -- ---- a board is closed first
 
-closure_room : (t : Table) (key : ℕ) (known : Option Known) → (table_closure t key known).room ≡ t.room
+closure_room : (t : ClosedModel) (key : ℕ) (known : Option Known) → (table_closure t key known).room ≡ t.room
 closure_room t key None = refl
 closure_room t key (Some known) = refl
 
-pub ready_closed : (me : ℕ) (grid : Grid) (lists lists' : Lists) (unsent : List Packet) (offers : List (Option Offer)) (key : ℕ) → lists'.closed ≡ table_closure lists.closed key (map.get lists.closed.known key) → ((h : ℕ) → places_at lists.waiting h ≤ places_at lists'.waiting h) → IsReady me grid (stock lists unsent) offers → IsReady me grid (stock lists' unsent) offers
+pub ready_closed : (me : ℕ) (grid : ShapeModel) (lists lists' : SearchListsModel) (unsent : List Packet) (offers : List (Option Offer)) (key : ℕ) → lists'.closed ≡ table_closure lists.closed key (map.get lists.closed.known key) → ((h : ℕ) → places_at lists.waiting h ≤ places_at lists'.waiting h) → IsReady me grid (stock lists unsent) offers → IsReady me grid (stock lists' unsent) offers
 ready_closed me grid lists lists' unsent offers key closed places ready =
-    let room : lists'.closed.room ≡ lists.closed.room = ap (λ (t : Table). t.room) closed ∙ closure_room lists.closed key (map.get lists.closed.known key) in
+    let room : lists'.closed.room ≡ lists.closed.room = ap (λ (t : ClosedModel). t.room) closed ∙ closure_room lists.closed key (map.get lists.closed.known key) in
     ready_with_room me grid lists unsent offers lists' (omega (arith, room)) places ready
 
 -- what is spent of an allowance is left no longer
-pub one_spent : (worker : WorkerState) (b : Position) (known : Known) (granted left left' : ℕ) (lists' : Lists) (lists : Lists) (key : ℕ) → worker.known ≡ lists.closed.known → worker.allowance ≡ left → worker.expansions ≡ granted - left → left' + 1 ≡ left → left ≤ granted → search_key b ≡ key → map.get lists.closed.known (search_key b) ≡ Some known → lists'.closed ≡ table_closure lists.closed key (map.get lists.closed.known key) → record worker { known = lists'.closed.known; allowance = left'; expansions = granted - left' } ≡ with_closure worker b known
+pub one_spent : (worker : WorkerState) (b : BoardModel) (known : Known) (granted left left' : ℕ) (lists' : SearchListsModel) (lists : SearchListsModel) (key : ℕ) → worker.known ≡ lists.closed.known → worker.allowance ≡ left → worker.expansions ≡ granted - left → left' + 1 ≡ left → left ≤ granted → search_key b ≡ key → map.get lists.closed.known (search_key b) ≡ Some known → lists'.closed ≡ table_closure lists.closed key (map.get lists.closed.known key) → record worker { known = lists'.closed.known; allowance = left'; expansions = granted - left' } ≡ with_closure worker b known
 one_spent worker b known granted left left' lists' lists key knows allowed made spent few packed at closed =
     let found : map.get lists.closed.known key ≡ Some known = ap (map.get lists.closed.known) (sym packed) ∙ at in
-    let now = ap (λ (t : Table). t.known) (closed ∙ ap (table_closure lists.closed key) found) in
+    let now = ap (λ (t : ClosedModel). t.known) (closed ∙ ap (table_closure lists.closed key) found) in
     let fewer : left' ≡ worker.allowance - 1 = omega (arith, spent, allowed) in
     let more : granted - left' ≡ worker.expansions + 1 = omega (arith, spent, few, made) in
     λ t. record worker { known = (now ∙ (λ s. map.insert (sym knows s) (sym packed s) (record known { expanded = true }))) t; allowance = fewer t; expansions = more t }
 
 -- ---- what is ready before
 
-pub ready_for : (me : ℕ) (grid : Grid) (cost n : ℕ) (lists : Lists) (unsent : List Packet) (offers : Offers) → HasRoom me unsent offers → OfEach (IsWithin grid cost n) offers → length unsent ≡ n → 4 ≤ lists.closed.room → OfEach (λ offer. offer.owner ≡ me → 4 ≤ places_at lists.waiting offer.f) offers → IsReady me grid (stock lists unsent) (in_turn offers)
+pub ready_for : (me : ℕ) (grid : ShapeModel) (cost n : ℕ) (lists : SearchListsModel) (unsent : List Packet) (offers : Offers) → HasRoom me unsent offers → OfEach (IsWithin grid cost n) offers → length unsent ≡ n → 4 ≤ lists.closed.room → OfEach (λ offer. offer.owner ≡ me → 4 ≤ places_at lists.waiting offer.f) offers → IsReady me grid (stock lists unsent) (in_turn offers)
 ready_for me grid cost n lists unsent offers room within all boards places = record {
   there = (owned offers.up within.0, (owned offers.left within.1, (owned offers.right within.2, (owned offers.down within.3, tt))));
   keys = (keyed offers.up within.0, (keyed offers.left within.1, (keyed offers.right within.2, (keyed offers.down within.3, tt))));
@@ -481,12 +481,12 @@ ready_for me grid cost n lists unsent offers room within all boards places = rec
     owned : (offer : Option Offer) → IfSome offer (IsWithin grid cost n) → IfSome offer (λ some. some.owner < length unsent)
     owned offer is = if_some (IsWithin grid cost n) (λ some. some.owner < length unsent) (λ some in_it. subst (λ (k : ℕ). some.owner < k) (sym all) in_it.owned) offer is
 
-    keyed : (offer : Option Offer) → IfSome offer (IsWithin grid cost n) → IfSome offer (λ some. (b : Position) × HasSearchKey grid some.key b)
-    keyed offer is = if_some (IsWithin grid cost n) (λ some. (b : Position) × HasSearchKey grid some.key b) (λ some in_it. in_it.board) offer is
+    keyed : (offer : Option Offer) → IfSome offer (IsWithin grid cost n) → IfSome offer (λ some. (b : BoardModel) × HasSearchKey grid some.key b)
+    keyed offer is = if_some (IsWithin grid cost n) (λ some. (b : BoardModel) × HasSearchKey grid some.key b) (λ some in_it. in_it.board) offer is
 
 -- ---- how the lists stand to the task
 
-module _ (task : Task) (guide : Guide) (owner : Position → ℕ) (b : Position) (cost n : ℕ) (grid : Grid) (is : IsGuideOf task guide) (board : IsTaskBoard task b) (low : cost ≤ GREATEST_EXPANDED_COST) where
+module _ (task : Task) (guide : Guide) (owner : BoardModel → ℕ) (b : BoardModel) (cost n : ℕ) (grid : ShapeModel) (is : IsGuideOf task guide) (board : IsTaskBoard task b) (low : cost ≤ GREATEST_EXPANDED_COST) where
   -- what is offered adds up by the guide
   one_adds : (item : Option Item) (offer : Option Offer) → IfSome item (λ i. IsBoard i.board × (i.board.grid ≡ task.goal.grid)) → IsOffered task.sum owner item offer → IfSome offer (IsWithin grid cost n) → IfSome offer (AddsUpBy guide)
   one_adds None None boards offered within = within
@@ -511,7 +511,7 @@ module _ (task : Task) (guide : Guide) (owner : Position → ℕ) (b : Position)
       boards m = item_board_but task.rule b cost left_out m task.goal.grid board.0 board.1
 
 -- the start of a task is no matter for its guide
-pub restarted : (start start' goal : Position) (rule : CostRule) (tables : Tables) (guide : Guide) (lists : Lists) → IsGuided (task_of start goal rule tables) guide lists → IsGuided (task_of start' goal rule tables) guide lists
+pub restarted : (start start' goal : BoardModel) (rule : WeightsModel) (tables : BoundModel) (guide : Guide) (lists : SearchListsModel) → IsGuided (task_of start goal rule tables) guide lists → IsGuided (task_of start' goal rule tables) guide lists
 restarted start start' goal rule tables guide lists is = record {
   guides = record { ends = is.guides.ends; board = is.guides.board; sums = λ b at. is.guides.sums b at };
   order = is.order;
@@ -519,7 +519,7 @@ restarted start start' goal rule tables guide lists is = record {
 }
 
 -- a board that is open by its key, and least, is next
-pub is_next : (task : Task) (guide : Guide) (lists : Lists) (worker : WorkerState) (same : lists.closed.known ≡ worker.known) (is : IsGuided task guide lists) (next : Next) (first : IsLeastOpen guide lists.closed next) (b : Position) → HasSearchKey task.goal.grid next.key b → IsNext task worker b first.opens.0
+pub is_next : (task : Task) (guide : Guide) (lists : SearchListsModel) (worker : WorkerState) (same : lists.closed.known ≡ worker.known) (is : IsGuided task guide lists) (next : Next) (first : IsLeastOpen guide lists.closed next) (b : BoardModel) → HasSearchKey task.goal.grid next.key b → IsNext task worker b first.opens.0
 is_next task guide lists worker same is next first b has =
     let known = first.opens.0 in
     let at = first.opens.1 in

@@ -9,7 +9,7 @@ use Rattle.std.proofs.lemmas.Option.{none-some, slice_get_within}
 use Rattle.arrayvec.specs.ArrayVec.{ArrayVec}
 use Rattle.memory.specs.declared.OutOfMemory.{OutOfMemory}
 use Rattle.search_keys.specs.SearchKeys.{search_key}
-use Rattle.board.specs.Positions.{Position}
+use Rattle.board.specs.Boards.{BoardModel}
 use Rattle.search_keys.proofs.SearchKeyLemmas.{one_board as same_board}
 use Rattle.outcomes.specs.Outcomes.{Task}
 use Rattle.world_model.specs.declared.parts.Item.{Item}
@@ -25,7 +25,7 @@ use Rattle.world_model.specs.Shapes.{IsPacketFor}
 use Rattle.world_model.specs.WorkerSteps.{SettleStep}
 use Rattle.thread_model.specs.Changes.{HoldsOwnLast}
 use Rattle.search_lists.specs.declared.lists.Next.{Next}
-use Rattle.search_lists.specs.Lists.{Lists, empty_lists}
+use Rattle.search_lists.specs.Lists.{SearchListsModel, empty_lists}
 use Rattle.search_lists.specs.Orders as orders
 use Rattle.search_lists.specs.Orders.{Guide, IsInOrder, NoneBelow, IsLeastOpen}
 use Rattle.worker_core.specs.Workers.{packets_of}
@@ -89,20 +89,20 @@ rest_left i floor x y fault call = passed_over _ _ _ _ call (λ some. passed_ove
 
 -- ---- what the lists of a worker say of its boards: which of them are open, and the least cost plus sum of these
 
-module _ (task : Task) (guide : Guide) (lists : Lists) (worker : WorkerState) (same : lists.closed.known ≡ worker.known) (is : IsGuided task guide lists) where
+module _ (task : Task) (guide : Guide) (lists : SearchListsModel) (worker : WorkerState) (same : lists.closed.known ≡ worker.known) (is : IsGuided task guide lists) where
   -- an open board is open by its key, at the same cost plus sum
-  pub open_key : (b : Position) (known : Known) → IsOpen task worker b known → orders.IsOpen guide lists.closed (search_key b) known
+  pub open_key : (b : BoardModel) (known : Known) → IsOpen task worker b known → orders.IsOpen guide lists.closed (search_key b) known
   open_key b known at = record {
     knows = ap (λ m. map.get m (search_key b)) same ∙ at.knows;
     unexpanded = at.unexpanded;
     no_goal = λ e. at.no_goal (same_board b task.goal at.board.0 is.guides.board at.board.1 (e ∙ is.guides.ends));
   }
 
-  pub same_sum : (b : Position) (known : Known) → IsOpen task worker b known → known.cost + guide.sum (search_key b) ≡ known.cost + task.sum b
+  pub same_sum : (b : BoardModel) (known : Known) → IsOpen task worker b known → known.cost + guide.sum (search_key b) ≡ known.cost + task.sum b
   same_sum b known at = ap (λ (n : ℕ). known.cost + n) (is.guides.sums b at.board)
 
   -- and the other way round
-  pub open_board : (key : ℕ) (known : Known) → orders.IsOpen guide lists.closed key known → (b : Position) × IsOpen task worker b known × (search_key b ≡ key)
+  pub open_board : (key : ℕ) (known : Known) → orders.IsOpen guide lists.closed key known → (b : BoardModel) × IsOpen task worker b known × (search_key b ≡ key)
   open_board key known at =
       let found = is.boards key known at.knows in (
         found.0,
@@ -132,10 +132,10 @@ module _ (task : Task) (guide : Guide) (lists : Lists) (worker : WorkerState) (s
       omega (arith, lt, le, e, key, cost, adds)
 
   -- an open board of this cost plus sum, by its key and by itself
-  key_at : (f : ℕ) → ((b : Position) × (known : Known) × IsOpen task worker b known × (known.cost + task.sum b ≡ f)) → (key : ℕ) × (known : Known) × orders.IsOpen guide lists.closed key known × (known.cost + guide.sum key ≡ f)
+  key_at : (f : ℕ) → ((b : BoardModel) × (known : Known) × IsOpen task worker b known × (known.cost + task.sum b ≡ f)) → (key : ℕ) × (known : Known) × orders.IsOpen guide lists.closed key known × (known.cost + guide.sum key ≡ f)
   key_at f at = (search_key at.0, at.1, open_key at.0 at.1 at.2, same_sum at.0 at.1 at.2 ∙ at.3)
 
-  board_at : (f : ℕ) → ((key : ℕ) × (known : Known) × orders.IsOpen guide lists.closed key known × (known.cost + guide.sum key ≡ f)) → (b : Position) × (known : Known) × IsOpen task worker b known × (known.cost + task.sum b ≡ f)
+  board_at : (f : ℕ) → ((key : ℕ) × (known : Known) × orders.IsOpen guide lists.closed key known × (known.cost + guide.sum key ≡ f)) → (b : BoardModel) × (known : Known) × IsOpen task worker b known × (known.cost + task.sum b ≡ f)
   board_at f at =
       let board = open_board at.0 at.1 at.2 in
       (board.0, at.1, board.1, sym (same_sum board.0 at.1 board.1) ∙ ap (λ (k : ℕ). at.1.cost + guide.sum k) board.2 ∙ at.3)
@@ -159,7 +159,7 @@ empty_order guide = record {
 }
 
 -- then each guide of a task guides the lists
-pub empty_guided : (task : Task) (guide : Guide) (lists : Lists) → IsGuideOf task guide → lists ≡ empty_lists → IsGuided task guide lists
+pub empty_guided : (task : Task) (guide : Guide) (lists : SearchListsModel) → IsGuideOf task guide → lists ≡ empty_lists → IsGuided task guide lists
 empty_guided task guide lists leads none = subst (IsGuided task guide) (sym none) (record {
   guides = leads;
   order = empty_order guide;
@@ -239,6 +239,6 @@ refused_settles role it refusal (inr (accepted, dropped)) answer = absurd (none-
 
 -- ---- what stays in order stays guided
 
-pub stays_guided : {S : Type 0} (context : ContextModel S) (old new : Lists) → StayInOrder context old new → StaysGuided context old new
+pub stays_guided : {S : Type 0} (context : ContextModel S) (old new : SearchListsModel) → StayInOrder context old new → StaysGuided context old new
 stays_guided context old new stay start guide is =
     record { guides = is.guides; order = stay.order start guide is.guides is.order; boards = stay.boards (task_from start context) refl is.boards }

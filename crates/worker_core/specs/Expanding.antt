@@ -2,16 +2,16 @@
 use Rattle.std.specs.Prelude.{⊤, ℕ, ◌≡◌, ◌≢◌, ◌⊎◌, ◌+◌, ◌<◌, ◌≤◌, List, [], ◌∷◌, length, slice_index_or, Option, Some, None, IfSome, OnErr, OnOk, Result}
 use Rattle.board.specs.declared.moves.Move.{Move}
 use Rattle.board.specs.declared.moves.Move.TheVariants.{U, L, R, D}
-use Rattle.board.specs.Grids.{Grid}
+use Rattle.board.specs.Shapes.{ShapeModel}
 use Rattle.search_keys.specs.SearchKeys.{HasSearchKey}
-use Rattle.board.specs.Positions.{Position}
+use Rattle.board.specs.Boards.{BoardModel}
 use Rattle.open_buckets.specs.declared.open.TheConstants.{GREATEST_F}
 use Rattle.open_buckets.specs.OpenLists.{places_at}
 use Rattle.offers.specs.declared.offer.Offer.{Offer}
 use Rattle.offers.specs.Offers.{AreOffered, Offers, OfEach, item_by}
 use Rattle.offers.specs.Room.{goes}
 use Rattle.outcomes.specs.Outcomes.{Task}
-use Rattle.search_lists.specs.Lists.{HasMoreRoom, Lists}
+use Rattle.search_lists.specs.Lists.{HasMoreRoom, SearchListsModel}
 use Rattle.search_lists.specs.Orders.{Guide}
 use Rattle.successor_sums.specs.ByMoves.{of_move}
 use Rattle.successor_sums.specs.Unpacked.{but}
@@ -56,7 +56,7 @@ abbrev pub OnwardStepsAloneAreWhole : Type 0
 OnwardStepsAloneAreWhole =
     (role : Role) (it : Turn WorkerState Refusal)
     → role.task.rule.grid ≡ role.task.goal.grid
-    → ((b : Position) → role.owner b ≡ role.me)
+    → ((b : BoardModel) → role.owner b ≡ role.me)
     → WereReached role.task.rule it.before.known
     → ExpandOnwardStep role it
     → ExpandStep role it
@@ -73,60 +73,60 @@ OfAll P (offer ∷ rest) = IfSome offer P × OfAll P rest
 
 -- what a worker takes offers into: its lists, and for each worker the packet under construction
 pub record Stock : Type 0 where
-  pub lists : Lists
+  pub lists : SearchListsModel
   pub unsent : List Packet
 
-abbrev pub stock : Lists → List Packet → Stock
+abbrev pub stock : SearchListsModel → List Packet → Stock
 stock lists unsent = record { lists = lists; unsent = unsent }
 
 -- Worker `me` has what it takes to take these offers: the lists have places for as many boards, and the packets for the items. The
 -- offers have keys of boards of the grid.
-pub record IsReady (me : ℕ) (grid : Grid) (into : Stock) (offers : List (Option Offer)) : Type 0 where
+pub record IsReady (me : ℕ) (grid : ShapeModel) (into : Stock) (offers : List (Option Offer)) : Type 0 where
   pub there : OfAll (λ offer. offer.owner < length into.unsent) offers
-  pub keys : OfAll (λ offer. (b : Position) × HasSearchKey grid offer.key b) offers
+  pub keys : OfAll (λ offer. (b : BoardModel) × HasSearchKey grid offer.key b) offers
   pub boards : length offers ≤ into.lists.closed.room
   pub places : OfAll (λ offer. offer.owner ≡ me → length offers ≤ places_at into.lists.waiting offer.f) offers
   pub room : (to : ℕ) → to < length into.unsent → length (slice_index_or into.unsent to []) + all_go me to offers ≤ PACKET_LIMIT
 
 -- at what is offered, where worker `me` owns it, there are places for as many boards as there are moves
-abbrev pub HasPlaces : ℕ → Lists → Offer → Type 0
+abbrev pub HasPlaces : ℕ → SearchListsModel → Offer → Type 0
 HasPlaces me lists offer = offer.owner ≡ me → 4 ≤ places_at lists.waiting offer.f
 
 -- there are places for as many boards more as there are moves, and at each offer that worker `me` owns
-abbrev pub HasAllPlaces : ℕ → Lists → Offers → Type 0
+abbrev pub HasAllPlaces : ℕ → SearchListsModel → Offers → Type 0
 HasAllPlaces me lists offers = (4 ≤ lists.closed.room) × OfEach (HasPlaces me lists) offers
 
 -- Room is made: there is all that was wanted. It is refused only where some of it was wanting, where all was there nothing changes,
 -- and what is known and waits stays.
-pub record MakesRoom {A E : Type 0} (has : Lists → Type 0) (answer : Result A E) (old new : Lists) : Type 0 where
+pub record MakesRoom {A E : Type 0} (has : SearchListsModel → Type 0) (answer : Result A E) (old new : SearchListsModel) : Type 0 where
   pub ok : OnOk answer (has new)
   pub refused : OnErr answer (¬ has old)
   pub enough : has old → new ≡ old
   pub same : HasMoreRoom old new
 
 -- a board is expanded next whose moves offer what there are too few places for
-abbrev pub LacksPlacesToExpand : Successors → Role → WorkerState → Lists → Type 0
+abbrev pub LacksPlacesToExpand : Successors → Role → WorkerState → SearchListsModel → Type 0
 LacksPlacesToExpand successors role worker lists =
-    (b : Position) × (known : Known) × IsNext role.task worker b known × (offers : Offers)
+    (b : BoardModel) × (known : Known) × IsNext role.task worker b known × (offers : Offers)
     × AreOffered role.task.sum role.owner (but (left_out_by successors known) (item_by role.task.rule b known.cost)) offers
     × (¬ HasAllPlaces role.me lists offers)
 
 -- places for four boards more, and for four at each f, are all places, whatever is offered
 abbrev pub FourPlacesAreEnough : Type 0
-FourPlacesAreEnough = (me : ℕ) (lists : Lists) (offers : Offers) → 4 ≤ lists.closed.room → ((f : ℕ) → 4 ≤ places_at lists.waiting f) → HasAllPlaces me lists offers
+FourPlacesAreEnough = (me : ℕ) (lists : SearchListsModel) (offers : Offers) → 4 ≤ lists.closed.room → ((f : ℕ) → 4 ≤ places_at lists.waiting f) → HasAllPlaces me lists offers
 
 -- three are too few: for boards, and at an offer that the worker owns
 abbrev pub ThreePlacesAreTooFew : Type 0
-ThreePlacesAreTooFew = (me : ℕ) (lists : Lists) (offers : Offers) → (lists.closed.room ≡ 3) ⊎ ((m : Move) × (offer : Offer) × (of_move offers m ≡ Some offer) × (offer.owner ≡ me) × (places_at lists.waiting offer.f ≡ 3)) → ¬ HasAllPlaces me lists offers
+ThreePlacesAreTooFew = (me : ℕ) (lists : SearchListsModel) (offers : Offers) → (lists.closed.room ≡ 3) ⊎ ((m : Move) × (offer : Offer) × (of_move offers m ≡ Some offer) × (offer.owner ≡ me) × (places_at lists.waiting offer.f ≡ 3)) → ¬ HasAllPlaces me lists offers
 
 -- what other workers own needs no places
 abbrev pub OthersNeedNoPlaces : Type 0
-OthersNeedNoPlaces = (me : ℕ) (lists : Lists) (offers : Offers) → 4 ≤ lists.closed.room → OfEach (λ offer. offer.owner ≢ me) offers → HasAllPlaces me lists offers
+OthersNeedNoPlaces = (me : ℕ) (lists : SearchListsModel) (offers : Offers) → 4 ≤ lists.closed.room → OfEach (λ offer. offer.owner ≢ me) offers → HasAllPlaces me lists offers
 
 -- what is offered adds up by this guide
 abbrev pub AddsUpBy : Guide → Offer → Type 0
 AddsUpBy guide offer = (offer.f ≡ offer.cost + guide.sum offer.key) × (offer.f ≤ GREATEST_F)
 
 -- the role of worker `me` of `workers`, where boards have these owners among each number of workers
-abbrev pub role_by : Task → (ℕ → Position → ℕ) → ℕ → ℕ → Role
+abbrev pub role_by : Task → (ℕ → BoardModel → ℕ) → ℕ → ℕ → Role
 role_by task owner_among workers me = record { task = task; owner = owner_among workers; me = me }

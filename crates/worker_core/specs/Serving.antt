@@ -1,27 +1,27 @@
 -- What a worker and the context of its steps have in common.
 use Rattle.std.specs.Prelude.{◌≡◌, length}
-use Rattle.board.specs.Positions.{Position}
+use Rattle.board.specs.Boards.{BoardModel}
 use Rattle.outcomes.specs.Outcomes.{Task}
-use Rattle.search_lists.specs.Lists.{Lists}
+use Rattle.search_lists.specs.Lists.{SearchListsModel}
 use Rattle.search_lists.specs.Orders.{Guide, IsInOrder}
 use Rattle.worker_core.specs.Contexts.{ContextModel, task_from}
 use Rattle.worker_core.specs.Roles.{AreTaskBoards, IsGuideOf, IsGuided}
 use Rattle.worker_core.specs.declared.worker.Worker.{Worker}
 
 -- each guide of the search by which the lists were in order is still one
-abbrev pub StaysGuided : {S : Type 0} → ContextModel S → Lists → Lists → Type 0
-StaysGuided context old new = (start : Position) (guide : Guide) → IsGuided (task_from start context) guide old → IsGuided (task_from start context) guide new
+abbrev pub StaysGuided : {S : Type 0} → ContextModel S → SearchListsModel → SearchListsModel → Type 0
+StaysGuided context old new = (start : BoardModel) (guide : Guide) → IsGuided (task_from start context) guide old → IsGuided (task_from start context) guide new
 
 -- Each guide of the search that ordered the lists still does, and what they know is boards of a task with its goal, if it was so before.
-pub record StayInOrder {S : Type 0} (context : ContextModel S) (old new : Lists) : Type 0 where
-  pub order : (start : Position) (guide : Guide) → IsGuideOf (task_from start context) guide → IsInOrder guide old → IsInOrder guide new
+pub record StayInOrder {S : Type 0} (context : ContextModel S) (old new : SearchListsModel) : Type 0 where
+  pub order : (start : BoardModel) (guide : Guide) → IsGuideOf (task_from start context) guide → IsInOrder guide old → IsInOrder guide new
   pub boards : (task : Task) → task.goal ≡ context.goal → AreTaskBoards task old.closed → AreTaskBoards task new.closed
 
 module _ {S C D E K G : Type 0} where
   -- the worker has a packet for each of the workers, and some guide of the search orders its lists
   pub record Serves (context : ContextModel S) (worker : Worker C D E K G) : Type 0 where
     pub workers : length worker.unsent.items ≡ context.workers
-    pub guided : (start : Position) × (guide : Guide) × IsGuided (task_from start context) guide worker.lists
+    pub guided : (start : BoardModel) × (guide : Guide) × IsGuided (task_from start context) guide worker.lists
 
   -- it has packets for as many workers as before, was granted as much, and its lists stay in order
   pub record KeepsServing (context : ContextModel S) (old new : Worker C D E K G) : Type 0 where

@@ -5,7 +5,7 @@ use Rattle.lower_bound.specs.Bounds.{sum_of}
 use Rattle.lower_bound.specs.Tables.{parts_of}
 use Rattle.open_buckets.specs.OpenLists.{places_at}
 use Rattle.search_keys.specs.SearchKeys.{search_key}
-use Rattle.search_lists.specs.Lists.{Lists}
+use Rattle.search_lists.specs.Lists.{SearchListsModel}
 use Rattle.world_model.specs.declared.parts.Item.{Item}
 use Rattle.world_model.specs.declared.steps.Refusal.{Refusal}
 use Rattle.world_model.specs.Knowledge.{is_news}
@@ -35,11 +35,11 @@ abbrev pub RefusedSettlesChangeNothing : Type 0
 RefusedSettlesChangeNothing = (role : Role) (it : Turn WorkerState Refusal) (refusal : Refusal) → SettleOrDrop role it → it.answer ≡ Some refusal → it.after ≡ it.before
 
 -- there is a place for one board more, and for one that waits at an f
-abbrev pub HasPlaceAt : ℕ → Lists → Type 0
+abbrev pub HasPlaceAt : ℕ → SearchListsModel → Type 0
 HasPlaceAt f lists = (0 < lists.closed.room) × (0 < places_at lists.waiting f)
 
 -- the cost of the item's board is news, and there is no place for the board at its cost plus sum
-pub record LacksPlaceFor {S : Type 0} (context : ContextModel S) (item : Item) (lists : Lists) : Type 0 where
+pub record LacksPlaceFor {S : Type 0} (context : ContextModel S) (item : Item) (lists : SearchListsModel) : Type 0 where
   pub news : is_news (map.get lists.closed.known (search_key item.board)) item.cost ≡ true
   pub no_place : ¬ HasPlaceAt (item.cost + sum_of (parts_of context.tables) item.board) lists
 

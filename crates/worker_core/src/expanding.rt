@@ -4,7 +4,7 @@ ghost use Rattle.std.specs.Prelude.{ℕ, ◌≡◌, ◌<◌, ◌≤◌, ◌+◌,
 ghost use Rattle.std.specs.Prelude.{◌≢◌, Option};
 ghost use Rattle.std.specs.FinMap as map;
 ghost use Rattle.search_keys.specs.SearchKeys.{search_key};
-ghost use Rattle.board.specs.Positions.{Position, IsBoard};
+ghost use Rattle.board.specs.Boards.{BoardModel, IsBoard};
 ghost use Rattle.closed_table.specs.Tables.{table_closure};
 ghost use Rattle.open_buckets.specs.OpenLists.{places_at};
 ghost use Rattle.open_buckets.specs.declared.open.TheConstants.{GREATEST_F};
@@ -19,7 +19,8 @@ ghost use Rattle.world_model.specs.Turns.{turn, refusal_in};
 ghost use Rattle.world_model.specs.Workers.{Role, KnowsAs};
 ghost use Rattle.worker_core.specs.Contexts.{role_from};
 ghost use Rattle.worker_core.specs.Expanding.{IsReady, stock, AddsUpBy, all_taken, in_turn};
-ghost use Rattle.worker_core.specs.Expanding.{left_out_by, ExpandStepFor, HasPlaces, HasAllPlaces, MakesRoom};
+ghost use Rattle.worker_core.specs.Expanding.{left_out_by, ExpandStepFor, HasPlaces, HasAllPlaces};
+ghost use Rattle.worker_core.specs.Expanding.{MakesRoom};
 ghost use Rattle.worker_core.specs.Expanding.{LacksPlacesToExpand};
 ghost use Rattle.worker_core.specs.Roles.{IsGuided};
 ghost use Rattle.worker_core.specs.Serving.{Serves, KeepsServing};
@@ -63,10 +64,10 @@ impl<C: Counting> Worker<C> {
         successors: Successors,
     ) -> Result<(), Refusal>
         requires { Serves context.now self.old }
-        ensures step { (start : Position)
+        ensures step { (start : BoardModel)
             → ExpandStepFor successors (role_from S.owner_of start context.now)
             (turn (state_of self.old) (refusal_in result) (state_of self.new)) }
-        ensures refused { IfMemoryRefused result ((start : Position)
+        ensures refused { IfMemoryRefused result ((start : BoardModel)
             → LacksPlacesToExpand successors (role_from S.owner_of start context.now)
             (state_of self.old) self.old.lists) }
         ensures keeps { KeepsServing context.now self.old self.new }
@@ -119,7 +120,7 @@ impl<C: Counting> Worker<C> {
         requires granted { self.old.allowance.left ≤ self.old.allowance.granted }
         requires ready { IsReady context.now.me context.now.goal.grid (stock self.old.lists
             (packets_of self.old.unsent.items)) (in_turn offers.now) }
-        ensures state { (role : Role) (sum : Position → ℕ) (b : Position) (known : Known)
+        ensures state { (role : Role) (sum : BoardModel → ℕ) (b : BoardModel) (known : Known)
             (left_out : Option Move) → role.me ≡ context.now.me → IsBoard b
             → b.grid ≡ context.now.goal.grid
             → search_key b ≡ next.key → KnowsAs (state_of self.old) b known
@@ -140,7 +141,7 @@ impl<C: Counting> Worker<C> {
     fn take_all<S: Spread>(&mut self, context: &Context<'_, S>, offers: &ByMoves<Offer>)
         requires { IsReady context.now.me context.now.goal.grid (stock self.old.lists
             (packets_of self.old.unsent.items)) (in_turn offers.now) }
-        ensures state { (role : Role) (sum : Position → ℕ) (items : Move → Option Item)
+        ensures state { (role : Role) (sum : BoardModel → ℕ) (items : Move → Option Item)
             → role.me ≡ context.now.me → AreOffered sum role.owner items offers.now
             → ((m : Move) → IfSome (items m) (λ i. IsBoard i.board
             × (i.board.grid ≡ context.now.goal.grid)))

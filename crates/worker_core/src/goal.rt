@@ -2,7 +2,7 @@
 
 ghost use Rattle.std.specs.Prelude.{◌≡◌};
 ghost use Rattle.search_keys.specs.SearchKeys.{search_key};
-ghost use Rattle.board.specs.Positions.{IsBoard};
+ghost use Rattle.board.specs.Boards.{IsBoard};
 
 use board::{Board, Shape};
 use search_keys::KeyedBoard;
@@ -18,9 +18,9 @@ pub struct Goal {
 impl Model for Goal {
     ghost use Rattle.std.specs.Prelude.{◌≡◌};
     ghost use Rattle.search_keys.specs.SearchKeys.{search_key};
-    ghost use Rattle.board.specs.Positions.{Position};
+    ghost use Rattle.board.specs.Boards.{BoardModel};
 
-    ghost Value = { Position };
+    ghost Value = { BoardModel };
 
     ghost view = { λ g. g.board };
 

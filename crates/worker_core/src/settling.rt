@@ -3,7 +3,7 @@
 ghost use Rattle.std.specs.Prelude.{◌≡◌, ◌≤◌, OnOk, OnErr, IsTrue, IsFalse};
 ghost use Rattle.std.specs.FinMap as map;
 ghost use Rattle.board.specs.declared.costs.TheConstants.{GREATEST_COST};
-ghost use Rattle.board.specs.Positions.{Position};
+ghost use Rattle.board.specs.Boards.{BoardModel};
 ghost use Rattle.open_buckets.specs.declared.open.TheConstants.{GREATEST_F};
 ghost use Rattle.search_lists.specs.Lists.{HasMoreRoom};
 ghost use Rattle.world_model.specs.Knowledge.{is_news, relaxation};
@@ -34,7 +34,7 @@ impl<C: Counting> Worker<C> {
         alloc: Global,
         context: &Context<'_, S>,
     ) -> Result<(), Refusal>
-        ensures step { (start : Position) → SettleOrDrop (role_from S.owner_of start context.now)
+        ensures step { (start : BoardModel) → SettleOrDrop (role_from S.owner_of start context.now)
             (turn (state_of self.old) (refusal_in result) (state_of self.new)) }
         ensures refused { IfMemoryRefused result (LacksPlaceForLast context.now self.old) }
         ensures keeps { KeepsInOrder context.now self.old self.new }
@@ -76,9 +76,9 @@ impl<C: Counting> Worker<C> {
 
 // Whether an item is foreign. One worker alone owns all boards.
 fn is_foreign<S: Spread>(context: &Context<'_, S>, item: &Item) -> bool
-    ensures yes { IsTrue result → (start : Position)
+    ensures yes { IsTrue result → (start : BoardModel)
         → IsForeign (role_from S.owner_of start context.now) item.now }
-    ensures no { IsFalse result → (start : Position)
+    ensures no { IsFalse result → (start : BoardModel)
         → IsOwn (role_from S.owner_of start context.now) item.now }
 {
     if item.board.shape() != context.goal.shape() {

@@ -1,8 +1,9 @@
 //! How a worker takes what the moves from a board offer.
 
-ghost use Rattle.std.specs.Prelude.{◌≡◌, ◌≢◌, ◌<◌, ◌≤◌, ◌∷◌, ◌++◌, [], List, Option, Some, IfSome, length};
+ghost use Rattle.std.specs.Prelude.{◌≡◌, ◌≢◌, ◌<◌, ◌≤◌, ◌∷◌, ◌++◌, [], List, Option, Some, IfSome};
+ghost use Rattle.std.specs.Prelude.{length};
 ghost use Rattle.std.specs.Prelude.{ℕ, slice_set, slice_index_or};
-ghost use Rattle.board.specs.Positions.{Position, IsBoard};
+ghost use Rattle.board.specs.Boards.{BoardModel, IsBoard};
 ghost use Rattle.outcomes.specs.Outcomes.{Task};
 ghost use Rattle.offers.specs.declared.offer.Offer.{Offer};
 ghost use Rattle.offers.specs.Offers.{IsOffered};
@@ -35,7 +36,7 @@ impl<C: Counting> Worker<C> {
             (stock self.old.lists (packets_of self.old.unsent.items)) (Some offer.now ∷ rest)
             → IsReady context.now.me context.now.goal.grid
             (stock self.new.lists (packets_of self.new.unsent.items)) rest }
-        ensures state { (role : Role) (sum : Position → ℕ) (item : Option Item)
+        ensures state { (role : Role) (sum : BoardModel → ℕ) (item : Option Item)
             → role.me ≡ context.now.me → IsOffered sum role.owner item (Some offer.now)
             → IfSome item (λ i. IsBoard i.board × (i.board.grid ≡ context.now.goal.grid))
             → IfSome item (λ i. i.via ≡ via)

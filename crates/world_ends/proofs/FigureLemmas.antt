@@ -12,7 +12,7 @@ use Rattle.std.proofs.lemmas.List.{length-map}
 use Rattle.std.proofs.lemmas.List.Sums.{sum_by_more}
 use Rattle.std.proofs.lemmas.Map.Made.{length-le_from_is_member}
 use Rattle.std.proofs.lemmas.Map.Views.{Contains-from_any, list_any-from_Contains}
-use Rattle.closed_table.specs.Tables.{Table, IsTable}
+use Rattle.closed_table.specs.Tables.{ClosedModel, IsTable}
 use Rattle.world_model.specs.declared.parts.Known.{Known}
 use Rattle.world_model.specs.Workers.{WorkerState}
 use Rattle.world_ends.specs.declared.figures.Figures.{Figures}
@@ -48,7 +48,7 @@ same_eq = λ i x y. unsigned_tied x y i
 has_key : (known : map.FinMap nat_cmp Known) (q : ℕ) → map.contains_key known q ≡ list_any (nat_eq q) (map.keys known)
 has_key known q = map.contains_key-keys known q ∙ ap (λ (e : ℕ → ℕ → Bool). list_any (e q) (map.keys known)) same_eq
 
-pub as_many : (t : Table) → IsTable t → length t.keys ≡ map.len t.known
+pub as_many : (t : ClosedModel) → IsTable t → length t.keys ≡ map.len t.known
 as_many t is =
     let apart = subst (λ (e : ℕ → ℕ → Bool). IsDistinct e (map.keys t.known)) same_eq (sorted_apart (map.entries t.known) (map.entries_sorted t.known)) in
     let up = length-le_from_is_member nat_eq_equiv t.keys (map.keys t.known) is.once (λ q m. sym (has_key t.known q) ∙ (is.each q).0 (Contains-from_any (λ x y e. eqb-true x y e) q t.keys m)) in

@@ -5,13 +5,13 @@ use Rattle.std.proofs.lemmas.Bool.{cases_lt, true≢false, not-false}
 use Rattle.std.proofs.lemmas.Option.{none-some, slice_get_within, get_or_from_slice_get, slice_get-get_or, unwrap_or-slice_get, slice_get-map}
 use Rattle.std.proofs.lemmas.List.Elements.{Contains-append_left, Contains-push, Contains-push_cases}
 use Rattle.std.proofs.Math.Seq.{take-suc}
-use Rattle.board.specs.Positions.{Position, IsBoard}
-use Rattle.board.specs.Grids.{Grid}
+use Rattle.board.specs.Boards.{BoardModel, IsBoard}
+use Rattle.board.specs.Shapes.{ShapeModel}
 use Rattle.board.specs.Moves.{Moves}
 use Rattle.board.specs.declared.moves.Move.{Move}
 use Rattle.board.specs.Neighbours.{opposite}
 use Rattle.board.specs.Equality.{position_eq, position_eq-laws, positions_Decide}
-use Rattle.board.specs.CostRules.{CostRule}
+use Rattle.board.specs.Weights.{WeightsModel}
 use Rattle.board.proofs.MoveLemmas.{taken_back}
 use Rattle.search_keys.specs.SearchKeys.{search_key}
 use Rattle.outcomes.specs.Outcomes.{Task}
@@ -26,7 +26,7 @@ use Rattle.worker_core.specs.declared.worker.Worker.{Worker}
 use Rattle.worker_core.specs.Workers.{state_of}
 use Rattle.world_ends.specs.Lowest.{IsLeastBeside, IsOfWorkers, IsLowestInLanes, IsOfItem, IsOfUnsent, IsOfOpen, IsOfWorker, HasItemsOn}
 use Rattle.world_ends.specs.Parts.{HasParts, known_in, states_of, known_by}
-use Rattle.world_ends.specs.Plans.{IsTraced, IsBefore}
+use Rattle.world_ends.specs.Plans.{IsTraced, IsPredecessor}
 use Rattle.std.specs.declared.alloc.Global.{Global}
 use Rattle.memory.specs.declared.OutOfMemory.{OutOfMemory}
 use Rattle.board.specs.Plans.{Leads}
@@ -116,7 +116,7 @@ pub packet_at : (packets : List Packet) (to : ℕ) (packet : Packet) → to < le
 packet_at packets to packet within is = slice_get-get_or packets to [] within ∙ ap (λ (p : Packet). Some p) (sym (unwrap_or-slice_get packets to []) ∙ sym is)
 
 -- one item more
-pub item_more : (sum : Position → ℕ) (items : List Item) (i : ℕ) (item : Item) (f : ℕ) (x y : Option ℕ) → i < length items → slice_get items i ≡ Some item → f ≡ item.cost + sum item.board → IsLeastBeside (IsOfItem sum (take i items)) x y → IsLeastBeside (IsOfItem sum (take (i + 1) items)) x (lesser (Some f) y)
+pub item_more : (sum : BoardModel → ℕ) (items : List Item) (i : ℕ) (item : Item) (f : ℕ) (x y : Option ℕ) → i < length items → slice_get items i ≡ Some item → f ≡ item.cost + sum item.board → IsLeastBeside (IsOfItem sum (take i items)) x y → IsLeastBeside (IsOfItem sum (take (i + 1) items)) x (lesser (Some f) y)
 item_more sum items i item f x y within at adds is =
     let step : i + 1 ≡ suc i = omega arith in
     let more : take (i + 1) items ≡ take i items ++ item ∷ [] = ap (λ (k : ℕ). take k items) step ∙ take-suc items i item within ∙ ap (λ (it : Item). take i items ++ it ∷ []) (get_or_from_slice_get items i item item at) in
@@ -135,14 +135,14 @@ item_more sum items i item f x y within at adds is =
     x (lesser (Some f) y) both)
 
 -- an unsent item for one of the first workers
-abbrev pub IsOfUnsentUpTo : ℕ → (Position → ℕ) → WorkerState → ℕ → Type 0
+abbrev pub IsOfUnsentUpTo : ℕ → (BoardModel → ℕ) → WorkerState → ℕ → Type 0
 IsOfUnsentUpTo k sum worker f = (to : ℕ) × (packet : Packet) × (to < k) × (slice_get worker.unsent to ≡ Some packet) × IsOfItem sum packet f
 
-pub no_packet : (sum : Position → ℕ) (worker : WorkerState) (x : Option ℕ) → IsLeastBeside (IsOfUnsentUpTo 0 sum worker) x x
+pub no_packet : (sum : BoardModel → ℕ) (worker : WorkerState) (x : Option ℕ) → IsLeastBeside (IsOfUnsentUpTo 0 sum worker) x x
 no_packet sum worker x = beside_same (λ f. ⊥) (IsOfUnsentUpTo 0 sum worker) (λ n h. absurd h) (λ n h. omega (arith, h.2)) x x (beside_none x)
 
 -- one packet more
-pub packet_more : (sum : Position → ℕ) (worker : WorkerState) (k : ℕ) (packet : Packet) (x y z : Option ℕ) → slice_get worker.unsent k ≡ Some packet → IsLeastBeside (IsOfUnsentUpTo k sum worker) x y → IsLeastBeside (IsOfItem sum packet) y z → IsLeastBeside (IsOfUnsentUpTo (k + 1) sum worker) x z
+pub packet_more : (sum : BoardModel → ℕ) (worker : WorkerState) (k : ℕ) (packet : Packet) (x y z : Option ℕ) → slice_get worker.unsent k ≡ Some packet → IsLeastBeside (IsOfUnsentUpTo k sum worker) x y → IsLeastBeside (IsOfItem sum packet) y z → IsLeastBeside (IsOfUnsentUpTo (k + 1) sum worker) x z
 packet_more sum worker k packet x y z at first second =
     beside_same (λ f. IsOfUnsentUpTo k sum worker f ⊎ IsOfItem sum packet f) (IsOfUnsentUpTo (k + 1) sum worker)
     (λ n h. ⊎_elim
@@ -158,7 +158,7 @@ packet_more sum worker k packet x y z at first second =
     (cases_lt h.0 k))
     x z (beside_both (IsOfUnsentUpTo k sum worker) (IsOfItem sum packet) x y z first second)
 
-pub all_packets : (sum : Position → ℕ) (worker : WorkerState) (x y : Option ℕ) → IsLeastBeside (IsOfUnsentUpTo (length worker.unsent) sum worker) x y → IsLeastBeside (IsOfUnsent sum worker) x y
+pub all_packets : (sum : BoardModel → ℕ) (worker : WorkerState) (x y : Option ℕ) → IsLeastBeside (IsOfUnsentUpTo (length worker.unsent) sum worker) x y → IsLeastBeside (IsOfUnsent sum worker) x y
 all_packets sum worker x y is =
     beside_same (IsOfUnsentUpTo (length worker.unsent) sum worker) (IsOfUnsent sum worker)
     (λ n h. (h.0, h.1, h.3, h.4))
@@ -214,7 +214,7 @@ pub state_at : {C D S K G : Type 0} (workers : List (Worker C D S K G)) (states 
 state_at workers states i d same within =
     ap (λ (ws : List WorkerState). slice_get ws i) (sym same) ∙ slice_get-map state_of workers i ∙ ap (option_map state_of) (slice_get-get_or workers i d within)
 
-module _ (task : Task) (owner_among : ℕ → Position → ℕ) (states : List WorkerState) (w : WorldState) (parts : HasParts task owner_among states w) where
+module _ (task : Task) (owner_among : ℕ → BoardModel → ℕ) (states : List WorkerState) (w : WorldState) (parts : HasParts task owner_among states w) where
   -- worker i is that of the parts
   pub worker_at : (i : ℕ) (worker : WorkerState) → slice_get states i ≡ Some worker → IsWorker w i worker
   worker_at i worker at = ap (λ (ws : List WorkerState). slice_get ws i) parts.works ∙ at
@@ -222,14 +222,14 @@ module _ (task : Task) (owner_among : ℕ → Position → ℕ) (states : List W
   pub worker_from : (i : ℕ) (worker : WorkerState) → IsWorker w i worker → slice_get states i ≡ Some worker
   worker_from i worker is = ap (λ (ws : List WorkerState). slice_get ws i) (sym parts.works) ∙ is
 
-  pub task_board : (b : Position) → IsTaskBoard task b → IsTaskBoard w.task b
+  pub task_board : (b : BoardModel) → IsTaskBoard task b → IsTaskBoard w.task b
   task_board b is = subst (λ (t : Task). IsTaskBoard t b) (sym parts.asks) is
 
   pub some_workers : 0 < length states
   some_workers = let e = ap length parts.works in omega (arith, e, parts.shaped.count.0)
 
   -- what the owner knows
-  pub known_at_owner : (b : Position) (known : Known) (o : Option WorkerState) → slice_get states (owner_among (length states) b) ≡ o → IsTaskBoard task b → known_by o (search_key b) ≡ Some known → Knows w (w.owner b) b known
+  pub known_at_owner : (b : BoardModel) (known : Known) (o : Option WorkerState) → slice_get states (owner_among (length states) b) ≡ o → IsTaskBoard task b → known_by o (search_key b) ≡ Some known → Knows w (w.owner b) b known
   known_at_owner b known None at is found = absurd (none-some known found)
   known_at_owner b known (Some worker) at is found = record {
     worker = worker;
@@ -238,20 +238,20 @@ module _ (task : Task) (owner_among : ℕ → Position → ℕ) (states : List W
     knows = found;
   }
 
-  pub knows_of : (b : Position) (known : Known) → IsTaskBoard task b → known_in owner_among states b ≡ Some known → Knows w (w.owner b) b known
+  pub knows_of : (b : BoardModel) (known : Known) → IsTaskBoard task b → known_in owner_among states b ≡ Some known → Knows w (w.owner b) b known
   knows_of b known is found = known_at_owner b known (slice_get states (owner_among (length states) b)) refl is found
 
-  pub known_from : (b : Position) (known : Known) → Knows w (w.owner b) b known → known_in owner_among states b ≡ Some known
+  pub known_from : (b : BoardModel) (known : Known) → Knows w (w.owner b) b known → known_in owner_among states b ≡ Some known
   known_from b known knows =
       let at : slice_get states (owner_among (length states) b) ≡ Some knows.worker = ap (slice_get states) (sym (parts.owns b)) ∙ worker_from (w.owner b) knows.worker knows.is in
       ap (λ (o : Option WorkerState). known_by o (search_key b)) at ∙ knows.knows
 
   -- a board that isn't the start has its predecessor
-  pub before_is : (b : Position) (known : Known) → IsTaskBoard task b → known_in owner_among states b ≡ Some known → b ≢ task.start → (before : Position) × (c : ℕ) × (there : Known) × IsBefore task owner_among states b known before c there
+  pub before_is : (b : BoardModel) (known : Known) → IsTaskBoard task b → known_in owner_among states b ≡ Some known → b ≢ task.start → (before : BoardModel) × (c : ℕ) × (there : Known) × IsPredecessor task owner_among states b known before c there
   before_is b known is found other =
       ⊎_elim
       (λ (first : (b ≡ w.task.start) × (known.cost ≡ 0)). absurd (other (first.0 ∙ ap (λ (t : Task). t.start) parts.asks)))
-      (λ (has : (before : Position) × (c : ℕ) × (there : Known) × Moves w.task.rule before known.via b c × Knows w (w.owner before) before there × (there.cost + c ≤ known.cost)). (
+      (λ (has : (before : BoardModel) × (c : ℕ) × (there : Known) × Moves w.task.rule before known.via b c × Knows w (w.owner before) before there × (there.cost + c ≤ known.cost)). (
         has.0,
         has.1,
         has.2,
@@ -269,7 +269,7 @@ module _ (task : Task) (owner_among : ℕ → Position → ℕ) (states : List W
   reached_is None is none =
       λ n h. none-some h.0 (sym none ∙ subst (λ (t : Task). known_in owner_among states t.goal ≡ Some h.0) parts.asks (known_from w.task.goal h.0 h.1))
   reached_is (Some known) is some = (
-    (known, subst (λ (b : Position). Knows w (w.owner b) b known) (ap (λ (t : Task). t.goal) (sym parts.asks)) (knows_of task.goal known is some), refl),
+    (known, subst (λ (b : BoardModel). Knows w (w.owner b) b known) (ap (λ (t : Task). t.goal) (sym parts.asks)) (knows_of task.goal known is some), refl),
     λ m h.
         let same : ◌≡◌ {A = Option Known} (Some known) (Some h.0) = sym some ∙ subst (λ (t : Task). known_in owner_among states t.goal ≡ Some h.0) parts.asks (known_from w.task.goal h.0 h.1) in
         let e : known ≡ h.0 = cc in
@@ -278,7 +278,7 @@ module _ (task : Task) (owner_among : ℕ → Position → ℕ) (states : List W
   )
 
   -- the items of each worker are of boards of the task
-  pub items_are : (grid : Grid) → grid ≡ task.goal.grid → (i : ℕ) (worker : WorkerState) → slice_get states i ≡ Some worker → HasItemsOn grid worker
+  pub items_are : (grid : ShapeModel) → grid ≡ task.goal.grid → (i : ℕ) (worker : WorkerState) → slice_get states i ≡ Some worker → HasItemsOn grid worker
   items_are grid sides i worker at =
       let shaped = parts.shaped.workers i worker (worker_at i worker at) in
       let goal : w.task.goal.grid ≡ grid = ap (λ (t : Task). t.goal.grid) parts.asks ∙ sym sides in
@@ -289,7 +289,7 @@ module _ (task : Task) (owner_among : ℕ → Position → ℕ) (states : List W
 
 -- the cost plus sum of a board in the frontier
 abbrev pub IsOfFrontier : WorldState → ℕ → Type 0
-IsOfFrontier w f = (b : Position) × (cost : ℕ) × IsInFrontier w b cost × (f ≡ cost + w.task.sum b)
+IsOfFrontier w f = (b : BoardModel) × (cost : ℕ) × IsInFrontier w b cost × (f ≡ cost + w.task.sum b)
 
 -- that of an item in a lane
 abbrev pub IsOfLanes : WorldState → ℕ → Type 0
@@ -326,10 +326,10 @@ module _ (w : WorldState) where
         inl (b, open_at.1, record { board = knows.board; knows = knows.knows; unexpanded = open_at.3; no_goal = open_at.4 }, ap (λ (c : ℕ). c + w.task.sum b) open_at.5 ∙ sym adds),
       )
   frontier_back n (b, cost, inr under, adds) =
-      item_back n under.0 under.1 under.2 (adds ∙ ap (λ (x : Position). cost + w.task.sum x) (sym under.3) ∙ ap (λ (c : ℕ). c + w.task.sum under.1.board) (sym under.4))
+      item_back n under.0 under.1 under.2 (adds ∙ ap (λ (x : BoardModel). cost + w.task.sum x) (sym under.3) ∙ ap (λ (c : ℕ). c + w.task.sum under.1.board) (sym under.4))
 
 -- the frontier of a world is that of its workers and its lanes
-pub lowest_is : (task : Task) (owner_among : ℕ → Position → ℕ) (states : List WorkerState) (w : WorldState) → HasParts task owner_among states w → (lanes lowest : Option ℕ) → IsLowestInLanes w lanes → IsLeastBeside (IsOfWorkers task states) lanes lowest → IsLowest w lowest
+pub lowest_is : (task : Task) (owner_among : ℕ → BoardModel → ℕ) (states : List WorkerState) (w : WorldState) → HasParts task owner_among states w → (lanes lowest : Option ℕ) → IsLowestInLanes w lanes → IsLeastBeside (IsOfWorkers task states) lanes lowest → IsLowest w lowest
 lowest_is task owner_among states w parts lanes lowest laned least =
     let first = subst (λ (t : Task). IsLeastBeside (IsOfWorkers t states) lanes lowest) (sym parts.asks) least in
     let second = subst (λ (ws : List WorkerState). IsLeastBeside (IsOfWorkers w.task ws) lanes lowest) (sym parts.works) first in
@@ -339,30 +339,30 @@ lowest_is task owner_among states w parts lanes lowest laned least =
 -- ---- plans that are followed back
 
 -- boards that are told apart differ
-pub differs : (a b : Position) → true ≡ not (position_eq a b) → a ≢ b
-differs a b e same = true≢false (e ∙ ap not (subst (λ (x : Position). position_eq a x ≡ true) same (position_eq-laws.refl a)))
+pub differs : (a b : BoardModel) → true ≡ not (position_eq a b) → a ≢ b
+differs a b e same = true≢false (e ∙ ap not (subst (λ (x : BoardModel). position_eq a x ≡ true) same (position_eq-laws.refl a)))
 
 -- and boards that are not are the same
-pub same_as : (a b : Position) → false ≡ not (position_eq a b) → a ≡ b
+pub same_as : (a b : BoardModel) → false ≡ not (position_eq a b) → a ≡ b
 same_as a b e = (positions_Decide a b).0 (not-false (position_eq a b) (sym e))
 
 -- a step back by the last move comes to the board before
-pub stepped_back : (rule : CostRule) (b : Position) (via back : Move) (answer : Option (Position × ℕ)) (before : Position) (c : ℕ) → back ≡ opposite via → ((b' : Position) (cost : ℕ) → (answer ≡ Some (b', cost)) ↔ Moves rule b back b' cost) → IsBoard before → Moves rule before via b c → answer ≡ Some (before, c)
+pub stepped_back : (rule : WeightsModel) (b : BoardModel) (via back : Move) (answer : Option (BoardModel × ℕ)) (before : BoardModel) (c : ℕ) → back ≡ opposite via → ((b' : BoardModel) (cost : ℕ) → (answer ≡ Some (b', cost)) ↔ Moves rule b back b' cost) → IsBoard before → Moves rule before via b c → answer ≡ Some (before, c)
 stepped_back rule b via back answer before c undone moves board moved = (moves before c).1 (subst (λ (m : Move). Moves rule b m before c) (sym undone) (taken_back rule before via b c board moved))
 
-pub some_is : (answer : Option (Position × ℕ)) (found moved : Position × ℕ) → answer ≡ Some found → answer ≡ Some moved → found ≡ moved
-some_is answer found moved is is' = ap (λ (o : Option (Position × ℕ)). unwrap_or o found) (sym is ∙ is')
+pub some_is : (answer : Option (BoardModel × ℕ)) (found moved : BoardModel × ℕ) → answer ≡ Some found → answer ≡ Some moved → found ≡ moved
+some_is answer found moved is is' = ap (λ (o : Option (BoardModel × ℕ)). unwrap_or o found) (sym is ∙ is')
 
 -- what is found of that board, where this is known of the moved one
-pub found_before : (at : Position → Option Known) (answer : Option Known) (found moved : Position × ℕ) (known : Known) → answer ≡ at found.0 → found ≡ moved → at moved.0 ≡ Some known → answer ≡ Some known
-found_before at answer found moved known is same knows = is ∙ ap (λ (p : Position × ℕ). at p.0) same ∙ knows
+pub found_before : (at : BoardModel → Option Known) (answer : Option Known) (found moved : BoardModel × ℕ) (known : Known) → answer ≡ at found.0 → found ≡ moved → at moved.0 ≡ Some known → answer ≡ Some known
+found_before at answer found moved known is same knows = is ∙ ap (λ (p : BoardModel × ℕ). at p.0) same ∙ knows
 
 -- and by what the answer has
 pub known_by_answer : (answer before : Option Known) (known : Known) → answer ≡ before → answer ≡ Some known → before ≡ Some known
 known_by_answer answer before known is some = sym is ∙ some
 
 -- last moves lead on from the board before
-pub traced_more : (task : Task) (owner_among : ℕ → Position → ℕ) (states : List WorkerState) (before b : Position) (c : ℕ) (here : Known) (plan : List Move) → IsTaskBoard task b → known_in owner_among states b ≡ Some here → Moves task.rule before here.via b c → ((w : WorldState) → HasParts task owner_among states w → IsByLastMoves w b plan task.goal) → (w : WorldState) → HasParts task owner_among states w → IsByLastMoves w before (here.via ∷ plan) task.goal
+pub traced_more : (task : Task) (owner_among : ℕ → BoardModel → ℕ) (states : List WorkerState) (before b : BoardModel) (c : ℕ) (here : Known) (plan : List Move) → IsTaskBoard task b → known_in owner_among states b ≡ Some here → Moves task.rule before here.via b c → ((w : WorldState) → HasParts task owner_among states w → IsByLastMoves w b plan task.goal) → (w : WorldState) → HasParts task owner_among states w → IsByLastMoves w before (here.via ∷ plan) task.goal
 traced_more task owner_among states before b c here plan board found moves traced w parts =
     (b, c, here, subst (λ (t : Task). Moves t.rule before here.via b c) (sym parts.asks) moves, knows_of task owner_among states w parts b here board found, refl, traced w parts)
 
@@ -374,7 +374,7 @@ traced_more task owner_among states before b c here plan board found moves trace
 abbrev pub cost_in : Option Known → Option ℕ
 cost_in known = option_map (λ (k : Known). k.cost) known
 
-module _ (task : Task) (owner_among : ℕ → Position → ℕ) (states : List WorkerState) (w : WorldState) (parts : HasParts task owner_among states w) (lanes lowest : Option ℕ) (laned : IsLowestInLanes w lanes) (least : IsLeastBeside (IsOfWorkers task states) lanes lowest) (known : Option Known) (found : known_in owner_among states task.goal ≡ known) where
+module _ (task : Task) (owner_among : ℕ → BoardModel → ℕ) (states : List WorkerState) (w : WorldState) (parts : HasParts task owner_among states w) (lanes lowest : Option ℕ) (laned : IsLowestInLanes w lanes) (least : IsLeastBeside (IsOfWorkers task states) lanes lowest) (known : Option Known) (found : known_in owner_among states task.goal ≡ known) where
   abbrev at : End
   at = record { world = w; lowest = lowest; reached = cost_in known }
 
@@ -454,7 +454,7 @@ has_cost w None is knows none = is knows.0.cost (knows.0, knows.1, refl)
 has_cost w (Some cost) is knows none = none-some cost (sym none)
 
 -- with the rows that are due a world gives the bound with which it stopped
-pub bound_rows : (w : WorldState) (bound : ℕ) (best : Option (ℕ × Vec Move Global)) (cause : Cause) (rows : Vec (Position × ℕ) Global) → AreRowsFor w bound rows.items → EndsWhole w (Bounded bound best cause) → IsGiven w (outcome.Bounded bound best cause (Some rows))
+pub bound_rows : (w : WorldState) (bound : ℕ) (best : Option (ℕ × Vec Move Global)) (cause : Cause) (rows : Vec (BoardModel × ℕ) Global) → AreRowsFor w bound rows.items → EndsWhole w (Bounded bound best cause) → IsGiven w (outcome.Bounded bound best cause (Some rows))
 bound_rows w bound best cause rows are (lowest, reached, low, at, stopped) = (lowest, reached, low, at, (stopped, are))
 
 -- where memory is refused for the plan, it gives the bound alone

@@ -13,14 +13,14 @@ use Rattle.std.proofs.lemmas.List.Sorted.{Contains-permutation, IsPermutation-ma
 use Rattle.std.proofs.lemmas.Map.Keys.{IsDistinct-IsPermutation}
 use Rattle.std.proofs.lemmas.Map.Made.{AllPairs-from_IsDistinct, IsDistinct-from_AllPairs}
 use Rattle.std.proofs.Math.Seq.{take-suc}
-use Rattle.board.specs.Grids.{Grid}
-use Rattle.board.specs.Positions.{Position, IsBoard}
+use Rattle.board.specs.Shapes.{ShapeModel}
+use Rattle.board.specs.Boards.{BoardModel, IsBoard}
 use Rattle.board.specs.Keys.{HasKey, key_of}
 use Rattle.board.proofs.KeyLemmas.{same_board}
 use Rattle.search_keys.specs.SearchKeys.{search_key, HasSearchKey}
 use Rattle.search_keys.proofs.SearchKeyLemmas.{one_board}
 use Rattle.outcomes.specs.Outcomes.{Task}
-use Rattle.closed_table.specs.Tables.{Table, IsTable}
+use Rattle.closed_table.specs.Tables.{ClosedModel, IsTable}
 use Rattle.world_model.specs.declared.parts.Known.{Known}
 use Rattle.world_model.specs.Workers.{WorkerState, IsTaskBoard}
 use Rattle.world_model.specs.Worlds.{WorldState}
@@ -28,7 +28,7 @@ use Rattle.world_model.specs.Outcomes.{AreRowsBelow, AreRowsFor, IsKnownBelow}
 use Rattle.world_model.proofs.ChangeLemmas.{knows_owned}
 use Rattle.world_ends.specs.declared.rows.KeyedRow.{KeyedRow}
 use Rattle.world_ends.specs.Parts.{HasParts}
-use Rattle.world_ends.specs.Rows.{IsRowIn, AreApart, IsOfBoards, AreElsewhere, AreKeyedRows, AreBoardsOf, keyed}
+use Rattle.world_ends.specs.Rows.{IsRowIn, HaveDifferentKeys, IsOfBoards, AreElsewhere, AreKeyedRows, AreBoardsOf, keyed}
 use Rattle.world_ends.proofs.PartLemmas.{worker_at, worker_from, task_board}
 
 known_of_some : (k k' : Known) → ◌≡◌ {A = Option Known} (Some k) (Some k') → k ≡ k'
@@ -38,28 +38,28 @@ number_of_some : (k k' : ℕ) → ◌≡◌ {A = Option ℕ} (Some k) (Some k') 
 number_of_some k k' e = ap (λ (o : Option ℕ). unwrap_or o k) e
 
 -- two boards with one key are the same
-same_by_key : (grid : Grid) (key : ℕ) (b b' : Position) → HasKey grid key b → HasKey grid key b' → b ≡ b'
+same_by_key : (grid : ShapeModel) (key : ℕ) (b b' : BoardModel) → HasKey grid key b → HasKey grid key b' → b ≡ b'
 same_by_key grid key b b' has has' = same_board b b' has.board has'.board (has.sides ∙ sym has'.sides) (has.packed ∙ sym has'.packed)
 
 -- ---- one worker's boards
 
 -- a row of a board at one of the first places
-abbrev pub IsRowUpTo : Task → ℕ → Table → ℕ → KeyedRow → Type 0
+abbrev pub IsRowUpTo : Task → ℕ → ClosedModel → ℕ → KeyedRow → Type 0
 IsRowUpTo task k closed n row = (place : ℕ) × (place < n) × (in' : IsRowIn task k closed.known row) × (slice_get closed.keys place ≡ Some (search_key in'.b))
 
 -- the rows of the boards at the first places, beside old ones
-pub record AreRowsUpTo (task : Task) (k : ℕ) (closed : Table) (old : List KeyedRow) (n : ℕ) (rows : List KeyedRow) : Type 0 where
-  pub apart : AreApart rows
+pub record AreRowsUpTo (task : Task) (k : ℕ) (closed : ClosedModel) (old : List KeyedRow) (n : ℕ) (rows : List KeyedRow) : Type 0 where
+  pub apart : HaveDifferentKeys rows
   pub each : (row : KeyedRow) → Contains rows row ↔ (Contains old row ⊎ IsRowUpTo task k closed n row)
 
-pub no_rows_yet : (task : Task) (k : ℕ) (closed : Table) (old : List KeyedRow) → AreApart old → AreRowsUpTo task k closed old 0 old
+pub no_rows_yet : (task : Task) (k : ℕ) (closed : ClosedModel) (old : List KeyedRow) → HaveDifferentKeys old → AreRowsUpTo task k closed old 0 old
 no_rows_yet task k closed old apart = record {
   apart = apart;
   each = λ row. ((λ has. inl has), (λ has. ⊎_elim (λ (there : Contains old row). there) (λ (up : IsRowUpTo task k closed 0 row). absurd (omega (arith, up.1))) has));
 }
 
 -- keys at two places differ
-two_places : (closed : Table) → IsTable closed → (i j key : ℕ) → i < j → slice_get closed.keys i ≡ Some key → slice_get closed.keys j ≡ Some key → ⊥
+two_places : (closed : ClosedModel) → IsTable closed → (i j key : ℕ) → i < j → slice_get closed.keys i ≡ Some key → slice_get closed.keys j ≡ Some key → ⊥
 two_places closed is i j key lt first second =
     let apart = AllPairs-from_IsDistinct unsigned_Decides closed.keys is.once in
     let at : get_or closed.keys i 0 ≡ key = get_or_from_slice_get closed.keys i key 0 first in
@@ -67,14 +67,14 @@ two_places closed is i j key lt first second =
     apart i j 0 lt (slice_get_within closed.keys j key second) (at ∙ sym at')
 
 -- the search key at a place is that of a board, of which this is known
-pub record IsAt (grid : Grid) (closed : Table) (n : ℕ) (b : Position) (known : Known) : Type 0 where
+pub record IsAt (grid : ShapeModel) (closed : ClosedModel) (n : ℕ) (b : BoardModel) (known : Known) : Type 0 where
   pub board : IsBoard b
   pub sides : b.grid ≡ grid
   pub at : slice_get closed.keys n ≡ Some (search_key b)
   pub knows : map.get closed.known (search_key b) ≡ Some known
 
 -- it is so where the key is read at that place, and the board from the key
-pub read_at : (grid : Grid) (closed : Table) (n key : ℕ) (b : Position) (known : Known) → n < length closed.keys → key ≡ slice_index closed.keys n → map.get closed.known key ≡ Some known → HasSearchKey grid key b → IsAt grid closed n b known
+pub read_at : (grid : ShapeModel) (closed : ClosedModel) (n key : ℕ) (b : BoardModel) (known : Known) → n < length closed.keys → key ≡ slice_index closed.keys n → map.get closed.known key ≡ Some known → HasSearchKey grid key b → IsAt grid closed n b known
 read_at grid closed n key b known within is knows has = record {
   board = has.board;
   sides = has.sides;
@@ -82,7 +82,7 @@ read_at grid closed n key b known within is knows has = record {
   knows = ap (map.get closed.known) has.packed ∙ knows;
 }
 
-module _ (task : Task) (k : ℕ) (closed : Table) (is : IsTable closed) (old : List KeyedRow) (elsewhere : AreElsewhere task.goal.grid old closed.known) (n : ℕ) (rows : List KeyedRow) (are : AreRowsUpTo task k closed old n rows) (b : Position) (known : Known) (here : IsAt task.goal.grid closed n b known) where
+module _ (task : Task) (k : ℕ) (closed : ClosedModel) (is : IsTable closed) (old : List KeyedRow) (elsewhere : AreElsewhere task.goal.grid old closed.known) (n : ℕ) (rows : List KeyedRow) (are : AreRowsUpTo task k closed old n rows) (b : BoardModel) (known : Known) (here : IsAt task.goal.grid closed n b known) where
   still : (r : KeyedRow) → Contains old r ⊎ IsRowUpTo task k closed n r → Contains old r ⊎ IsRowUpTo task k closed (n + 1) r
   still r (inl there) = inl there
   still r (inr up) = inr (up.0, omega (arith, up.1), up.2, up.3)
@@ -95,7 +95,7 @@ module _ (task : Task) (k : ℕ) (closed : Table) (is : IsTable closed) (old : L
       let same : known ≡ in'.known = known_of_some known in'.known (sym here.knows ∙ ap (map.get closed.known) found ∙ in'.knows) in
       let key : key_of b ≡ r.key = ap key_of board ∙ in'.has.packed in
       let paid : known.cost ≡ r.cost = ap (λ (x : Known). x.cost) same ∙ in'.at in
-      let low : r.cost + task.sum b < k = subst (λ (x : Position). r.cost + task.sum x < k) (sym board) in'.low in
+      let low : r.cost + task.sum b < k = subst (λ (x : BoardModel). r.cost + task.sum x < k) (sym board) in'.low in
       ((λ i. record { key = key i; cost = paid i }), subst (λ (n : ℕ). n + task.sum b < k) (sym paid) low)
 
   -- a board at k or above adds no row
@@ -123,7 +123,7 @@ module _ (task : Task) (k : ℕ) (closed : Table) (is : IsTable closed) (old : L
   other_key r (inl there) e = elsewhere r b known there (record { board = here.board; sides = here.sides; packed = sym e }) here.knows
   other_key r (inr up) e =
       let same : up.2.b ≡ b = same_by_key task.goal.grid r.key up.2.b b up.2.has (record { board = here.board; sides = here.sides; packed = sym e }) in
-      two_places closed is up.0 n (search_key b) up.1 (up.3 ∙ ap (λ (x : Position). Some (search_key x)) same) here.at
+      two_places closed is up.0 n (search_key b) up.1 (up.3 ∙ ap (λ (x : BoardModel). Some (search_key x)) same) here.at
 
   -- one below k adds its row
   pub row_added : known.cost + task.sum b < k → AreRowsUpTo task k closed old (n + 1) (rows ++ keyed (b, known.cost) ∷ [])
@@ -153,7 +153,7 @@ module _ (task : Task) (k : ℕ) (closed : Table) (is : IsTable closed) (old : L
       }
 
 -- all boards of a worker
-pub all_rows_in : (task : Task) (k : ℕ) (closed : Table) → IsTable closed → (old rows : List KeyedRow) → AreRowsUpTo task k closed old (length closed.keys) rows → (row : KeyedRow) → Contains rows row ↔ (Contains old row ⊎ IsRowIn task k closed.known row)
+pub all_rows_in : (task : Task) (k : ℕ) (closed : ClosedModel) → IsTable closed → (old rows : List KeyedRow) → AreRowsUpTo task k closed old (length closed.keys) rows → (row : KeyedRow) → Contains rows row ↔ (Contains old row ⊎ IsRowIn task k closed.known row)
 all_rows_in task k closed is old rows are row = (
   (λ there. ⊎_elim (λ (before : Contains old row). inl before) (λ (up : IsRowUpTo task k closed (length closed.keys) row). inr up.2) ((are.each row).0 there)),
   (λ there. ⊎_elim
@@ -169,7 +169,7 @@ all_rows_in task k closed is old rows are row = (
 
 -- the rows of the first workers
 pub record AreRowsOfFirst (task : Task) (k : ℕ) (states : List WorkerState) (n : ℕ) (rows : List KeyedRow) : Type 0 where
-  pub apart : AreApart rows
+  pub apart : HaveDifferentKeys rows
   pub each : (row : KeyedRow) → Contains rows row ↔ ((i : ℕ) × (worker : WorkerState) × (i < n) × (slice_get states i ≡ Some worker) × IsRowIn task k worker.known row)
 
 -- that the row is of one of them
@@ -186,7 +186,7 @@ same_worker : (x y : WorkerState) → ◌≡◌ {A = Option WorkerState} (Some x
 same_worker x y e = ap (λ (o : Option WorkerState). unwrap_or o x) e
 
 -- one worker more
-pub rows_of_one_more : (task : Task) (k : ℕ) (states : List WorkerState) (n : ℕ) (worker : WorkerState) (rows more : List KeyedRow) → slice_get states n ≡ Some worker → AreRowsOfFirst task k states n rows → AreApart more → ((row : KeyedRow) → Contains more row ↔ (Contains rows row ⊎ IsRowIn task k worker.known row)) → AreRowsOfFirst task k states (n + 1) more
+pub rows_of_one_more : (task : Task) (k : ℕ) (states : List WorkerState) (n : ℕ) (worker : WorkerState) (rows more : List KeyedRow) → slice_get states n ≡ Some worker → AreRowsOfFirst task k states n rows → HaveDifferentKeys more → ((row : KeyedRow) → Contains more row ↔ (Contains rows row ⊎ IsRowIn task k worker.known row)) → AreRowsOfFirst task k states (n + 1) more
 rows_of_one_more task k states n worker rows more at are apart each = record {
   apart = apart;
   each = λ row. (
@@ -213,7 +213,7 @@ rows_of_all task k states rows are = record {
   );
 }
 
-module _ (task : Task) (owner_among : ℕ → Position → ℕ) (states : List WorkerState) (w : WorldState) (parts : HasParts task owner_among states w) where
+module _ (task : Task) (owner_among : ℕ → BoardModel → ℕ) (states : List WorkerState) (w : WorldState) (parts : HasParts task owner_among states w) where
   -- what a worker knows is boards of the task
   pub boards_are : (i : ℕ) (worker : WorkerState) → slice_get states i ≡ Some worker → IsOfBoards task.goal.grid worker.known
   boards_are i worker at key known knows =
@@ -221,7 +221,7 @@ module _ (task : Task) (owner_among : ℕ → Position → ℕ) (states : List W
       ((has.0, record { board = has.1.0; sides = has.1.1 ∙ ap (λ (t : Task). t.goal.grid) parts.asks; packed = has.2 }), has.4)
 
   -- and it owns each
-  owned : (i : ℕ) (worker : WorkerState) (b : Position) (known : Known) → slice_get states i ≡ Some worker → IsTaskBoard task b → map.get worker.known (search_key b) ≡ Some known → w.owner b ≡ i
+  owned : (i : ℕ) (worker : WorkerState) (b : BoardModel) (known : Known) → slice_get states i ≡ Some worker → IsTaskBoard task b → map.get worker.known (search_key b) ≡ Some known → w.owner b ≡ i
   owned i worker b known at board knows = (knows_owned w parts.shaped i b known (record {
     worker = worker;
     is = worker_at task owner_among states w parts i worker at;
@@ -255,7 +255,7 @@ numbers_flip = (decided nat_eq unsigned_Decides).symm
 no_row : KeyedRow
 no_row = record { key = 0; cost = 0 }
 
-keys_apart : (rows : List KeyedRow) → AreApart rows → AllPairs (λ (x y : ℕ). x ≢ y) (each_of key_in rows)
+keys_apart : (rows : List KeyedRow) → HaveDifferentKeys rows → AllPairs (λ (x y : ℕ). x ≢ y) (each_of key_in rows)
 keys_apart rows apart i j d lt within =
     let inside : j < length rows = subst (λ (n : ℕ). j < n) (length-map rows key_in) within in
     let first : get_or (each_of key_in rows) i d ≡ (get_or rows i no_row).key = get_or-map key_in rows i no_row d (omega (arith, lt, inside)) in
@@ -263,7 +263,7 @@ keys_apart rows apart i j d lt within =
     λ e. apart i j no_row lt inside (sym first ∙ e ∙ second)
 
 -- rows that are apart stay so when they change places
-pub apart_still : (rows sorted : List KeyedRow) → IsPermutation rows sorted → AreApart rows → AreApart sorted
+pub apart_still : (rows sorted : List KeyedRow) → IsPermutation rows sorted → HaveDifferentKeys rows → HaveDifferentKeys sorted
 apart_still rows sorted moved apart i j d lt within =
     let distinct = IsDistinct-IsPermutation nat_eq numbers_flip (each_of key_in rows) (each_of key_in sorted) (IsPermutation-map key_in rows sorted moved) (IsDistinct-from_AllPairs unsigned_Decides (each_of key_in rows) (keys_apart rows apart)) in
     let after = AllPairs-from_IsDistinct unsigned_Decides (each_of key_in sorted) distinct in
@@ -273,7 +273,7 @@ apart_still rows sorted moved apart i j d lt within =
     λ e. after i j d.key lt inside (first ∙ e ∙ sym second)
 
 -- each row in order has its board
-pub boards_of_keys : (task : Task) (k : ℕ) (states : List WorkerState) (rows sorted : List KeyedRow) → AreKeyedRows task k states rows → IsPermutation rows sorted → All (λ (row : KeyedRow). (b : Position) × HasKey task.goal.grid row.key b) sorted
+pub boards_of_keys : (task : Task) (k : ℕ) (states : List WorkerState) (rows sorted : List KeyedRow) → AreKeyedRows task k states rows → IsPermutation rows sorted → All (λ (row : KeyedRow). (b : BoardModel) × HasKey task.goal.grid row.key b) sorted
 boards_of_keys task k states rows sorted are moved i d within =
     let row = get_or sorted i d in
     let there = Contains-permutation sorted rows row (IsPermutation-sym rows sorted moved) (Contains-get_or sorted i d within) in
@@ -281,7 +281,7 @@ boards_of_keys task k states rows sorted are moved i d within =
     (up.3.b, up.3.has)
 
 -- one board more
-pub board_named : (grid : Grid) (rows : List KeyedRow) (i : ℕ) (d : KeyedRow) (named : List (Position × ℕ)) (b : Position) → i < length rows → AreBoardsOf grid (take i rows) named → HasKey grid (get_or rows i d).key b → AreBoardsOf grid (take (i + 1) rows) (named ++ (b, (get_or rows i d).cost) ∷ [])
+pub board_named : (grid : ShapeModel) (rows : List KeyedRow) (i : ℕ) (d : KeyedRow) (named : List (BoardModel × ℕ)) (b : BoardModel) → i < length rows → AreBoardsOf grid (take i rows) named → HasKey grid (get_or rows i d).key b → AreBoardsOf grid (take (i + 1) rows) (named ++ (b, (get_or rows i d).cost) ∷ [])
 board_named grid rows i d named b within are has =
     let row = get_or rows i d in
     let step : i + 1 ≡ suc i = omega arith in
@@ -289,18 +289,18 @@ board_named grid rows i d named b within are has =
     let here : keyed (b, row.cost) ≡ row = λ j. record { key = has.packed j; cost = row.cost } in
     record {
       keys = map-append keyed named ((b, row.cost) ∷ []) ∙ ap (λ (xs : List KeyedRow). xs ++ keyed (b, row.cost) ∷ []) are.keys ∙ ap (λ (x : KeyedRow). take i rows ++ x ∷ []) here ∙ sym more;
-      boards = All-push (λ (x : Position × ℕ). IsBoard x.0 × (x.0.grid ≡ grid)) named (b, row.cost) are.boards (has.board, has.sides);
+      boards = All-push (λ (x : BoardModel × ℕ). IsBoard x.0 × (x.0.grid ≡ grid)) named (b, row.cost) are.boards (has.board, has.sides);
     }
 
-module _ (task : Task) (owner_among : ℕ → Position → ℕ) (states : List WorkerState) (w : WorldState) (parts : HasParts task owner_among states w) (k : ℕ) (rows sorted : List KeyedRow) (boards : List (Position × ℕ)) (are : AreKeyedRows task k states rows) (moved : IsPermutation rows sorted) (rising : IsNonDecreasingBy (λ (row : KeyedRow). row.key) sorted) (named : AreBoardsOf task.goal.grid sorted boards) where
+module _ (task : Task) (owner_among : ℕ → BoardModel → ℕ) (states : List WorkerState) (w : WorldState) (parts : HasParts task owner_among states w) (k : ℕ) (rows sorted : List KeyedRow) (boards : List (BoardModel × ℕ)) (are : AreKeyedRows task k states rows) (moved : IsPermutation rows sorted) (rising : IsNonDecreasingBy (λ (row : KeyedRow). row.key) sorted) (named : AreBoardsOf task.goal.grid sorted boards) where
   same_length : length boards ≡ length sorted
   same_length = sym (length-map boards keyed) ∙ ap length named.keys
 
-  key_at : (i : ℕ) (d : Position × ℕ) → i < length boards → (get_or sorted i (keyed d)).key ≡ key_of (get_or boards i d).0
+  key_at : (i : ℕ) (d : BoardModel × ℕ) → i < length boards → (get_or sorted i (keyed d)).key ≡ key_of (get_or boards i d).0
   key_at i d within = ap (λ (rs : List KeyedRow). (get_or rs i (keyed d)).key) (sym named.keys) ∙ ap (λ (row : KeyedRow). row.key) (get_or-map keyed boards i d (keyed d) within)
 
   -- the boards rise by key
-  boards_rise : AllPairs (λ (row later : Position × ℕ). key_of row.0 < key_of later.0) boards
+  boards_rise : AllPairs (λ (row later : BoardModel × ℕ). key_of row.0 < key_of later.0) boards
   boards_rise i j d lt within =
       let inside : j < length sorted = omega (arith, within, same_length) in
       let le = rising i j (keyed d) (omega (arith, lt)) inside in
@@ -310,9 +310,9 @@ module _ (task : Task) (owner_among : ℕ → Position → ℕ) (states : List W
       omega (arith, le, first, second, other)
 
   -- a row is that of a known board below k
-  row_known : (b : Position) (cost : ℕ) → Contains boards (b, cost) → IsKnownBelow w k b cost
+  row_known : (b : BoardModel) (cost : ℕ) → Contains boards (b, cost) → IsKnownBelow w k b cost
   row_known b cost (i, within, is) =
-      let board = subst (λ (row : Position × ℕ). IsBoard row.0 × (row.0.grid ≡ task.goal.grid)) is (named.boards i (b, cost) within) in
+      let board = subst (λ (row : BoardModel × ℕ). IsBoard row.0 × (row.0.grid ≡ task.goal.grid)) is (named.boards i (b, cost) within) in
       let inside : i < length sorted = omega (arith, within, same_length) in
       let at : get_or sorted i (keyed (b, cost)) ≡ keyed (b, cost) = ap (λ (rs : List KeyedRow). get_or rs i (keyed (b, cost))) (sym named.keys) ∙ get_or-map keyed boards i (b, cost) (keyed (b, cost)) within ∙ ap keyed is in
       let there = Contains-permutation sorted rows (keyed (b, cost)) (IsPermutation-sym rows sorted moved) (i, inside, at) in
@@ -325,14 +325,14 @@ module _ (task : Task) (owner_among : ℕ → Position → ℕ) (states : List W
           worker = up.1;
           is = worker_at task owner_among states w parts up.0 up.1 up.2;
           board = task_board task owner_among states w parts b board;
-          knows = subst (λ (x : Position). map.get up.1.known (search_key x) ≡ Some in'.known) same in'.knows;
+          knows = subst (λ (x : BoardModel). map.get up.1.known (search_key x) ≡ Some in'.known) same in'.knows;
         },
         in'.at,
-        subst (λ (t : Task). cost + t.sum b < k) (sym parts.asks) (subst (λ (x : Position). cost + task.sum x < k) same in'.low),
+        subst (λ (t : Task). cost + t.sum b < k) (sym parts.asks) (subst (λ (x : BoardModel). cost + task.sum x < k) same in'.low),
       )
 
   -- and each known board below k has one
-  known_row : (b : Position) (cost : ℕ) → IsKnownBelow w k b cost → Contains boards (b, cost)
+  known_row : (b : BoardModel) (cost : ℕ) → IsKnownBelow w k b cost → Contains boards (b, cost)
   known_row b cost (i, known, knows, paid, low) =
       let board = subst (λ (t : Task). IsTaskBoard t b) parts.asks knows.board in
       let in' : IsRowIn task k knows.worker.known (keyed (b, cost)) = record {
@@ -360,5 +360,5 @@ module _ (task : Task) (owner_among : ℕ → Position → ℕ) (states : List W
   rows_are_for low = inr (subst (λ (t : Task). t.sum t.start < k) (sym parts.asks) low, rows_are_below)
 
 -- and where it does
-pub no_rows_for : (task : Task) (owner_among : ℕ → Position → ℕ) (states : List WorkerState) (w : WorldState) → HasParts task owner_among states w → (k : ℕ) (rows : List (Position × ℕ)) → k ≤ task.sum task.start → rows ≡ [] → AreRowsFor w k rows
+pub no_rows_for : (task : Task) (owner_among : ℕ → BoardModel → ℕ) (states : List WorkerState) (w : WorldState) → HasParts task owner_among states w → (k : ℕ) (rows : List (BoardModel × ℕ)) → k ≤ task.sum task.start → rows ≡ [] → AreRowsFor w k rows
 no_rows_for task owner_among states w parts k rows high empty = inl (subst (λ (t : Task). k ≤ t.sum t.start) (sym parts.asks) high, empty)

@@ -3,7 +3,7 @@ use Rattle.std.specs.Prelude.{ℕ, ◌≡◌, ◌<◌, ◌⊎◌, ◌↔◌, Vec
 use Rattle.std.specs.declared.alloc.Global.{Global}
 use Rattle.memory.specs.declared.OutOfMemory.{OutOfMemory}
 use Rattle.board.specs.declared.moves.Move.{Move}
-use Rattle.board.specs.Positions.{Position}
+use Rattle.board.specs.Boards.{BoardModel}
 use Rattle.outcomes.specs.declared.outcome.Cause.{Cause}
 use Rattle.outcomes.specs.declared.outcome.Cause.TheVariants.{Memory}
 use Rattle.outcomes.specs.declared.outcome.Want.{Want}
@@ -22,7 +22,7 @@ use Rattle.world_ends.specs.Readings.{WorldsAnswer}
 -- a world ends with a plan just where it gives that plan with the rows that are due
 abbrev pub EndingsLackRowsAlone : Type 0
 EndingsLackRowsAlone =
-    (w : WorldState) (cost : ℕ) (plan : Vec Move Global) (rows : Vec (Position × ℕ) Global)
+    (w : WorldState) (cost : ℕ) (plan : Vec Move Global) (rows : Vec (BoardModel × ℕ) Global)
     → AreRowsFor w cost rows.items
     → EndsIn w (Optimal cost plan) ↔ IsGiven w (outcome.Optimal cost plan rows)
 
@@ -36,7 +36,7 @@ WantedRowsLeaveABound =
 -- a world ends with a bound just where it gives that bound with the rows that are due; or alone, where the goal is known
 abbrev pub BoundsLackRowsAlone : Type 0
 BoundsLackRowsAlone =
-    (w : WorldState) (bound : ℕ) (best : Option (ℕ × Vec Move Global)) (cause : Cause) (rows : Vec (Position × ℕ) Global)
+    (w : WorldState) (bound : ℕ) (best : Option (ℕ × Vec Move Global)) (cause : Cause) (rows : Vec (BoardModel × ℕ) Global)
     → AreRowsFor w bound rows.items
     → EndsIn w (Bounded bound best cause) ↔ (IsGiven w (outcome.Bounded bound best cause (Some rows)) ⊎ (IsGiven w (outcome.Bounded bound best cause None) × KnowsGoal w))
 
@@ -62,14 +62,14 @@ MemoryEndsAreWanted =
 -- where rows prove the cost, an ending answers its task just where it does with these rows
 abbrev pub RowsMakeAnAnswer : Type 0
 RowsMakeAnAnswer =
-    (task : Task) (cost : ℕ) (plan : Vec Move Global) (rows : Vec (Position × ℕ) Global)
+    (task : Task) (cost : ℕ) (plan : Vec Move Global) (rows : Vec (BoardModel × ℕ) Global)
     → AreRowsOf task rows.items cost
     → EndAnswers task (Optimal cost plan) ↔ Answers task (outcome.Optimal cost plan rows)
 
 -- so it is of a bound
 abbrev pub RowsMakeABoundAnswer : Type 0
 RowsMakeABoundAnswer =
-    (task : Task) (bound : ℕ) (best : Option (ℕ × Vec Move Global)) (cause : Cause) (rows : Vec (Position × ℕ) Global)
+    (task : Task) (bound : ℕ) (best : Option (ℕ × Vec Move Global)) (cause : Cause) (rows : Vec (BoardModel × ℕ) Global)
     → AreRowsOf task rows.items bound
     → EndAnswers task (Bounded bound best cause) ↔ Answers task (outcome.Bounded bound best cause (Some rows))
 

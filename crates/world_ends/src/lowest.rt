@@ -8,7 +8,7 @@ ghost use Rattle.world_model.specs.Costs.{lesser};
 ghost use Rattle.world_model.specs.Workers.{WorkerState};
 ghost use Rattle.worker_core.specs.Roles.{IsGuided};
 ghost use Rattle.worker_core.specs.Workers.{state_of};
-ghost use Rattle.world_ends.specs.Parts.{task_in, states_of, AreGuided};
+ghost use Rattle.world_ends.specs.Parts.{task_in, states_of, AreWorkersGuided};
 ghost use Rattle.world_ends.specs.Lowest.{IsLeastBeside, IsOfItem, IsOfUnsent, IsOfWorker};
 ghost use Rattle.world_ends.specs.Lowest.{IsOfWorkers, AreItemsOn, HasItemsOn};
 
@@ -52,7 +52,7 @@ pub(crate) fn lowest_of_workers<C: Counting>(
 ) -> Option<u32>
     requires items { (i : ℕ) (worker : WorkerState) → slice_get (states_of workers.old) i ≡ Some worker
         → HasItemsOn asked.now.bound.now.split.grid worker }
-    ensures least { (guide : Guide) → AreGuided (task_in asked.now) guide workers.old
+    ensures least { (guide : Guide) → AreWorkersGuided (task_in asked.now) guide workers.old
         → IsLeastBeside (IsOfWorkers (task_in asked.now) (states_of workers.old)) lowest result }
     ensures same { states_of workers.new ≡ states_of workers.old }
 {

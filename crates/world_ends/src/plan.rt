@@ -1,11 +1,11 @@
 //! The plan of a run, followed back by last moves.
 
 ghost use Rattle.std.specs.Prelude.{ℕ, ◌≡◌, ◌<◌, ◌≤◌, Some, IfOk, length};
-ghost use Rattle.board.specs.Positions.{Position};
+ghost use Rattle.board.specs.Boards.{BoardModel};
 ghost use Rattle.world_model.specs.declared.parts.Known.{Known};
 ghost use Rattle.world_model.specs.Worlds.{WorldState};
 ghost use Rattle.world_ends.specs.Parts.{task_in, states_of, HasParts, known_in};
-ghost use Rattle.world_ends.specs.Plans.{IsBefore, IsTraced};
+ghost use Rattle.world_ends.specs.Plans.{IsPredecessor, IsTraced};
 
 use crate::asked::Asked;
 use board::{Board, Move};
@@ -83,10 +83,10 @@ fn step_back<C: Counting, S: Spread>(
 ) -> (Board, u32, Known)
     requires some { 0 < length workers.now }
     requires costs { asked.now.weights.grid ≡ board.now.grid }
-    requires reached { (before : Position) × (cost : ℕ) × (there : Known)
-        × IsBefore (task_in asked.now) (S.owner_of owners.now) (states_of workers.now)
+    requires reached { (before : BoardModel) × (cost : ℕ) × (there : Known)
+        × IsPredecessor (task_in asked.now) (S.owner_of owners.now) (states_of workers.now)
         board.now here before cost there }
-    ensures before { IsBefore (task_in asked.now) (S.owner_of owners.now) (states_of workers.now)
+    ensures before { IsPredecessor (task_in asked.now) (S.owner_of owners.now) (states_of workers.now)
         board.now here result.0 result.1 result.2 }
     ensures low { 1 ≤ result.1 }
 {

@@ -8,7 +8,8 @@ ghost use Rattle.world_model.specs.Outcomes.{IsGiven};
 ghost use Rattle.world_model.specs.Worlds.{WorldState};
 ghost use Rattle.world_ends.specs.Endings.{EndsIn};
 ghost use Rattle.world_ends.specs.Parts.{states_of, AreOfWorld, IsSeen};
-ghost use Rattle.world_ends.specs.Readings.{WorldsAnswer, BoundsAreOfWorlds, IsForParity, HasFigures};
+ghost use Rattle.world_ends.specs.Readings.{WorldsAnswer, BoundsAreOfWorlds, IsForParity};
+ghost use Rattle.world_ends.specs.Readings.{HasFigures};
 
 use crate::asked::{Asked, Snapshot};
 use crate::figures::{Figures, figures_of, no_figures};

@@ -3,14 +3,14 @@
 ghost use Rattle.std.specs.Prelude.{◌≡◌, ◌<◌, ◌≤◌, ◌+◌, ◌++◌, ◌∷◌, ◌⊎◌, ◌↔◌, [], ℕ, Some};
 ghost use Rattle.std.specs.Prelude.{OnOk, IfOk, IsOk, All, Contains, slice_get};
 ghost use Rattle.board.specs.declared.costs.TheConstants.{GREATEST_COST};
-ghost use Rattle.board.specs.Positions.{Position};
+ghost use Rattle.board.specs.Boards.{BoardModel};
 ghost use Rattle.board.specs.Keys.{HasKey};
 ghost use Rattle.lower_bound.specs.Bounds.{sum_of};
 ghost use Rattle.lower_bound.specs.Tables.{parts_of};
 ghost use Rattle.world_model.specs.Outcomes.{AreRowsFor};
 ghost use Rattle.world_model.specs.Worlds.{WorldState};
 ghost use Rattle.world_ends.specs.Parts.{task_in, states_of, HasParts};
-ghost use Rattle.world_ends.specs.Rows.{IsRowIn, AreApart, IsOfBoards, AreElsewhere};
+ghost use Rattle.world_ends.specs.Rows.{IsRowIn, HaveDifferentKeys, IsOfBoards, AreElsewhere};
 ghost use Rattle.world_ends.specs.Rows.{AreKeyedRows, AreBoardsOf, keyed};
 ghost use Rattle.world_ends.specs.declared.rows.KeyedRow.{KeyedRow};
 
@@ -40,9 +40,9 @@ pub fn rows_for<C: Counting>(
     cost: u32,
 ) -> Result<Vec<(Board, u32)>, OutOfMemory>
     requires sides { asked.now.bound.now.split.grid ≡ asked.now.goal.grid }
-    requires world { (owner_among : ℕ → Position → ℕ) × (w : WorldState)
+    requires world { (owner_among : ℕ → BoardModel → ℕ) × (w : WorldState)
         × HasParts (task_in asked.now) owner_among (states_of workers.now) w }
-    ensures rows { IfOk result (λ rows. (owner_among : ℕ → Position → ℕ) (w : WorldState)
+    ensures rows { IfOk result (λ rows. (owner_among : ℕ → BoardModel → ℕ) (w : WorldState)
         → HasParts (task_in asked.now) owner_among (states_of workers.now) w
         → AreRowsFor w cost rows.items) }
     ensures free { cost ≤ sum_of (parts_of asked.now.bound.now) asked.now.start → IsOk result }
@@ -63,7 +63,7 @@ fn keyed_rows<C: Counting>(
     cost: u32,
 ) -> Result<Vec<KeyedRow>, OutOfMemory>
     requires sides { asked.now.bound.now.split.grid ≡ asked.now.goal.grid }
-    requires world { (owner_among : ℕ → Position → ℕ) × (w : WorldState)
+    requires world { (owner_among : ℕ → BoardModel → ℕ) × (w : WorldState)
         × HasParts (task_in asked.now) owner_among (states_of workers.now) w }
     ensures { IfOk result (λ rows. AreKeyedRows (task_in asked.now) cost (states_of workers.now)
         rows.items) }
@@ -84,10 +84,10 @@ fn add_rows(
 ) -> Result<(), OutOfMemory>
     requires sides { asked.now.bound.now.split.grid ≡ asked.now.goal.grid }
     requires boards { IsOfBoards asked.now.goal.grid lists.now.closed.known }
-    requires apart { AreApart rows.old.items }
+    requires apart { HaveDifferentKeys rows.old.items }
     requires elsewhere { AreElsewhere asked.now.goal.grid rows.old.items
         lists.now.closed.known }
-    ensures apart { OnOk result (AreApart rows.new.items) }
+    ensures apart { OnOk result (HaveDifferentKeys rows.new.items) }
     ensures each { OnOk result ((row : KeyedRow) → Contains rows.new.items row
         ↔ (Contains rows.old.items row
         ⊎ IsRowIn (task_in asked.now) cost lists.now.closed.known row)) }
@@ -132,7 +132,7 @@ fn with_boards(
     shape: Shape,
     rows: &[KeyedRow],
 ) -> Result<Vec<(Board, u32)>, OutOfMemory>
-    requires { All (λ row. (b : Position) × HasKey shape row.key b) rows.now }
+    requires { All (λ row. (b : BoardModel) × HasKey shape row.key b) rows.now }
     ensures { IfOk result (λ boards. AreBoardsOf shape rows.now boards.items) }
 {
     let mut boards = Vec::new(alloc);

@@ -4,7 +4,7 @@ use Rattle.std.specs.Prelude.{All, slice_set, option_map}
 use Rattle.std.specs.FinMap as map
 use Rattle.std.proofs.lemmas.Bool.{cases_eq, cases_lt, cases_Bool, cond-true, cond-false, eqb-true}
 use Rattle.std.proofs.lemmas.List.{length-append}
-use Rattle.board.specs.Positions.{Position}
+use Rattle.board.specs.Boards.{BoardModel}
 use Rattle.search_keys.specs.SearchKeys.{search_key}
 use Rattle.outcomes.specs.Outcomes.{Task}
 use Rattle.world_model.specs.BookSteps.{AtBook, MayGoOn, AnnounceStep, DrawStep, GrantStep, HaltStep, MayAnnounce, RestStep, after_call, at_book, refusal_of}
@@ -94,7 +94,7 @@ idle_stable task worker limit best not = record {
 }
 
 -- what may be expanded, of a worker that knows the same
-open_same : (task : Task) (worker worker' : WorkerState) → worker'.known ≡ worker.known → (b : Position) (known : Known) → IsOpen task worker' b known → IsOpen task worker b known
+open_same : (task : Task) (worker worker' : WorkerState) → worker'.known ≡ worker.known → (b : BoardModel) (known : Known) → IsOpen task worker' b known → IsOpen task worker b known
 open_same task worker worker' same b known at = record { board = at.board; knows = ap (λ m. map.get m (search_key b)) (sym same) ∙ at.knows; unexpanded = at.unexpanded; no_goal = at.no_goal }
 
 not_running : (book : BookState) (stop : Stop) → IsRunning book → book.stop ≡ Some stop → ⊥

@@ -9,7 +9,7 @@ use Rattle.std.proofs.lemmas.Bool.{cases_Bool, cond-true, cond-false, ltb-true}
 use Rattle.std.proofs.lemmas.List.Elements.{Contains-push}
 use Rattle.memory.specs.declared.OutOfMemory.{OutOfMemory}
 use Rattle.board.specs.declared.moves.Move.{Move}
-use Rattle.board.specs.Positions.{Position}
+use Rattle.board.specs.Boards.{BoardModel}
 use Rattle.search_keys.specs.SearchKeys.{search_key}
 use Rattle.outcomes.specs.declared.outcome.Cause.{Cause}
 use Rattle.outcomes.specs.declared.outcome.Cause.TheVariants.{Limit as ForLimit, Memory as ForMemory, Start as ForStart, Cost as ForCost, Cut as ForCut}
@@ -184,7 +184,7 @@ memory_bounds w bound best want None given =
     inr (left.0, refl, (left.1.0, e), left.2)
 
 -- where nothing is in the frontier there is no lowest
-no_lowest : (w : WorldState) (lowest : Option ℕ) → ((b : Position) (cost : ℕ) → ¬ IsInFrontier w b cost) → IsLowest w lowest → lowest ≡ None
+no_lowest : (w : WorldState) (lowest : Option ℕ) → ((b : BoardModel) (cost : ℕ) → ¬ IsInFrontier w b cost) → IsLowest w lowest → lowest ≡ None
 no_lowest w None empty least = refl
 no_lowest w (Some f) empty least = absurd (empty least.0.0 least.0.1 least.0.2)
 
@@ -199,7 +199,7 @@ no_bound w (Some f) reached bound low at is = cc
 no_bound w lowest (Some c) bound low at is = cc
 
 module _ (w : WorldState) (unknown : ¬ KnowsGoal w) where
-  exhausted : ((b : Position) (cost : ℕ) → ¬ IsInFrontier w b cost) → (outcome : Outcome) → IsGiven w outcome → outcome ≡ Unsolvable Exhausted
+  exhausted : ((b : BoardModel) (cost : ℕ) → ¬ IsInFrontier w b cost) → (outcome : Outcome) → IsGiven w outcome → outcome ≡ Unsolvable Exhausted
   exhausted empty (Optimal cost plan rows) given = absurd (no_bound w given.0 given.1 cost (no_lowest w given.0 empty given.2) (not_reached w given.1 unknown given.3) given.4.0)
   exhausted empty (Unsolvable why) given = ap (λ (y : Why). Unsolvable y) given.4.1
   exhausted empty (Bounded bound None cause (Some rows)) given = absurd (no_bound w given.0 given.1 bound (no_lowest w given.0 empty given.2) (not_reached w given.1 unknown given.3) given.4.0.0)
@@ -207,11 +207,11 @@ module _ (w : WorldState) (unknown : ¬ KnowsGoal w) where
   exhausted empty (Bounded bound best cause None) given = absurd (no_bound w given.0 given.1 bound (no_lowest w given.0 empty given.2) (not_reached w given.1 unknown given.3) given.4.0.0)
 
   -- the rows of the start's sum are none
-  none_for_sum : (rows : Vec (Position × ℕ) Global) → AreRowsFor w (w.task.sum w.task.start) rows.items → rows.items ≡ []
+  none_for_sum : (rows : Vec (BoardModel × ℕ) Global) → AreRowsFor w (w.task.sum w.task.start) rows.items → rows.items ≡ []
   none_for_sum rows (inl few) = few.1
   none_for_sum rows (inr many) = absurd (omega (arith, many.0))
 
-  with_rows : (best : Option (ℕ × Vec Move Global)) (cause : Cause) (rows : Option (Vec (Position × ℕ) Global)) → IsGiven w (Bounded (w.task.sum w.task.start) best cause rows) → (listed : Vec (Position × ℕ) Global) × (rows ≡ Some listed) × (listed.items ≡ [])
+  with_rows : (best : Option (ℕ × Vec Move Global)) (cause : Cause) (rows : Option (Vec (BoardModel × ℕ) Global)) → IsGiven w (Bounded (w.task.sum w.task.start) best cause rows) → (listed : Vec (BoardModel × ℕ) Global) × (rows ≡ Some listed) × (listed.items ≡ [])
   with_rows best cause (Some rows) given = (rows, refl, none_for_sum rows given.4.1)
   with_rows best cause None given = absurd (none_asked (asked w given.0 given.1 (w.task.sum w.task.start) given.3 given.4.1))
     where
@@ -262,7 +262,7 @@ runs_within job via made w is run =
     let shaped = h.0 in (
       λ from to lane at. let l = shaped.lanes from to lane at in (l.few, λ packet has. let p = l.packets packet has in (p.0, p.1.few)),
       λ i worker at. let x = shaped.workers i worker at in (x.held.few, λ to packet there. (x.unsent to packet there).few),
-      λ i b known knows. let own = knows_owned w shaped i b known knows in (own.0, own.1, λ goal. h.1.goal_kept i known (subst (λ (p : Position). Knows w i p known) goal knows)),
+      λ i b known knows. let own = knows_owned w shaped i b known knows in (own.0, own.1, λ goal. h.1.goal_kept i known (subst (λ (p : BoardModel). Knows w i p known) goal knows)),
       offer_owned w shaped,
     )
 
@@ -313,7 +313,7 @@ HasStart w worker = (known : Known) × KnowsAs worker w.task.start known × (kno
 
 -- nothing has happened to the boards yet
 pub record IsFresh (w : WorldState) : Type 0 where
-  pub known : (i : ℕ) (b : Position) (known : Known) → Knows w i b known → (b ≡ w.task.start) × (known.cost ≡ 0)
+  pub known : (i : ℕ) (b : BoardModel) (known : Known) → Knows w i b known → (b ≡ w.task.start) × (known.cost ≡ 0)
   pub none : (to : ℕ) (item : Item) → ¬ IsUnderWay w to item
   pub unexpanded : expansion_count w ≡ 0
 
@@ -333,7 +333,7 @@ begun_by w i worker is new book lanes keeps begun =
     (worker_before w i worker is new book lanes begun.0 begun.1 begun.2)
 
 -- an expansion keeps the start expanded
-expand_keeps : (w : WorldState) (i : ℕ) (worker : WorkerState) (b : Position) (known : Known) → KnowsAs worker b known → HasStart w worker → HasStart w (expansion (role_of w i) worker b known)
+expand_keeps : (w : WorldState) (i : ℕ) (worker : WorkerState) (b : BoardModel) (known : Known) → KnowsAs worker b known → HasStart w worker → HasStart w (expansion (role_of w i) worker b known)
 expand_keeps w i worker b known knows has =
     ⊎_elim
     (λ same. (has.0, fold_zero (role_of w i) (successor_items w.task.rule b known.cost) (with_closure worker b known) (search_key w.task.start) has.0 (same ∙ has.1) has.3, has.2, has.3))
@@ -380,7 +380,7 @@ accepts_begun : (step : Step) (w w' : WorldState) → IsShaped w → IsSound w �
 accepts_begun (Expand i) w w' shaped sound (inl fresh) step =
     let knows : Knows w i step.change.board step.change.known = record { worker = step.worker; is = step.at; board = step.change.next.opens.board; knows = step.change.next.opens.knows } in
     let only = fresh.known i step.change.board step.change.known knows in
-    let begins : HasStart w step.new = subst (HasStart w) (sym (step.change.is ∙ ap (λ (b : Position). expansion (role_of w i) step.worker b step.change.known) only.0)) (expand_begins w i step.worker step.change.known only.1) in
+    let begins : HasStart w step.new = subst (HasStart w) (sym (step.change.is ∙ ap (λ (b : BoardModel). expansion (role_of w i) step.worker b step.change.known) only.0)) (expand_begins w i step.worker step.change.known only.1) in
     subst HasBegunOrNot (sym step.is) (inr (i, step.new, worker_there w i step.worker step.at step.new w.book w.lanes, begins))
 accepts_begun (Expand i) w w' shaped sound (inr begun) step =
     subst HasBegunOrNot (sym step.is)

@@ -7,14 +7,14 @@ use Rattle.std.proofs.lemmas.List.Elements.{Contains-get_or, Contains-append_lef
 use Rattle.std.specs.FinMap as map
 use Rattle.std.proofs.lemmas.List.Quantifiers.{all_pairs_push}
 use Rattle.board.specs.declared.moves.Move.{Move}
-use Rattle.board.specs.Positions.{Position, IsBoard}
+use Rattle.board.specs.Boards.{BoardModel, IsBoard}
 use Rattle.board.specs.Plans.{Leads, NothingBelow}
 use Rattle.board.specs.Rows.{IsLowerBound, HasRow, Proves}
 use Rattle.board.specs.Moves.{Moves}
 use Rattle.board.proofs.PlanLemmas.{one_more}
 use Rattle.board.specs.Keys.{key_of}
 use Rattle.board.specs.declared.costs.TheConstants.{GREATEST_COST, GREATEST_EXPANDED_COST}
-use Rattle.board.specs.Grids.{cell_count}
+use Rattle.board.specs.Shapes.{cell_count}
 use Rattle.board.proofs.KeyLemmas.{key_of-lt}
 use Rattle.search_keys.specs.SearchKeys.{search_key}
 use Rattle.outcomes.specs.Outcomes.{Answers, AllowsCause, AllowsWhy, AreRowsOf, HasProof, IsAboveSums, IsBestPlan, IsTrueBound, best_of}
@@ -43,21 +43,21 @@ use Rattle.world_model.proofs.RowLists.{rows_exist}
 
 -- n is no more than each cost plus sum of the frontier
 abbrev pub BelowFrontier : WorldState → ℕ → Type 0
-BelowFrontier w n = (b : Position) (cost : ℕ) → IsInFrontier w b cost → n ≤ cost + w.task.sum b
+BelowFrontier w n = (b : BoardModel) (cost : ℕ) → IsInFrontier w b cost → n ≤ cost + w.task.sum b
 
 -- n is no more than the goal's cost, where its owner knows it
 abbrev pub BelowReached : WorldState → ℕ → Type 0
 BelowReached w n = (known : Known) → Knows w (w.owner w.task.goal) w.task.goal known → n ≤ known.cost
 
 -- an offer that covers a board is in the frontier
-pub offer_low : (w : WorldState) (n : ℕ) → BelowFrontier w n → (b : Position) (cost : ℕ) → ((to : ℕ) × (offer : Item) × IsUnderWay w to offer × (offer.board ≡ b) × (offer.cost ≤ cost)) → n ≤ cost + w.task.sum b
+pub offer_low : (w : WorldState) (n : ℕ) → BelowFrontier w n → (b : BoardModel) (cost : ℕ) → ((to : ℕ) × (offer : Item) × IsUnderWay w to offer × (offer.board ≡ b) × (offer.cost ≤ cost)) → n ≤ cost + w.task.sum b
 offer_low w n low b cost has =
     let here = low b has.1.cost (inr (has.0, has.1, has.2, has.3, refl)) in
     let below = has.4 in
     omega arith
 
 module _ (w : WorldState) (shaped : IsShaped w) (sound : IsSound w) (bound : IsLowerBound w.task.rule w.task.sum w.task.goal) (n : ℕ) (low : BelowFrontier w n) (reached : BelowReached w n) where
-  offered : (b : Position) (cost : ℕ) → ((to : ℕ) × (offer : Item) × IsUnderWay w to offer × (offer.board ≡ b) × (offer.cost ≤ cost)) → (plan : List Move) (j : ℕ) → Leads w.task.rule b plan w.task.goal j → n ≤ cost + j
+  offered : (b : BoardModel) (cost : ℕ) → ((to : ℕ) × (offer : Item) × IsUnderWay w to offer × (offer.board ≡ b) × (offer.cost ≤ cost)) → (plan : List Move) (j : ℕ) → Leads w.task.rule b plan w.task.goal j → n ≤ cost + j
   offered b cost has plan j leads =
       let here = offer_low w n low b cost has in
       let board : IsBoard b = subst IsBoard has.3 (offer_owned w shaped has.0 has.1 has.2).0.0 in
@@ -65,7 +65,7 @@ module _ (w : WorldState) (shaped : IsShaped w) (sound : IsSound w) (bound : IsL
       omega arith
 
   -- from a board that is covered at a cost, each plan adds up to n at least
-  from_covered : (b : Position) (cost : ℕ) → IsCovered w b cost → (plan : List Move) (j : ℕ) → Leads w.task.rule b plan w.task.goal j → n ≤ cost + j
+  from_covered : (b : BoardModel) (cost : ℕ) → IsCovered w b cost → (plan : List Move) (j : ℕ) → Leads w.task.rule b plan w.task.goal j → n ≤ cost + j
   from_covered b cost (inr has) [] j leads = offered b cost has [] j leads
   from_covered b cost (inr has) (m ∷ plan) j leads = offered b cost has (m ∷ plan) j leads
   from_covered b cost (inl has) [] j leads =
@@ -99,33 +99,33 @@ module _ (w : WorldState) (shaped : IsShaped w) (sound : IsSound w) (bound : IsL
 -- ---- to each board that a sound world knows, or has under way, a plan leads, at no more than the cost that it has there
 
 module _ (w : WorldState) (shaped : IsShaped w) (sound : IsSound w) where
-  reached_from : (b : Position) (cost : ℕ) (via : Move) (m : ℕ) → cost < suc m → ((i : ℕ) (x : Position) (k : Known) → Knows w i x k → k.cost < m → IsLedTo w x k.cost) → HasPredecessor w b cost via → IsLedTo w b cost
+  reached_from : (b : BoardModel) (cost : ℕ) (via : Move) (m : ℕ) → cost < suc m → ((i : ℕ) (x : BoardModel) (k : Known) → Knows w i x k → k.cost < m → IsLedTo w x k.cost) → HasPredecessor w b cost via → IsLedTo w b cost
   reached_from b cost via m low earlier (inl start) = ([], 0, (start.0, refl), omega arith)
   reached_from b cost via m low earlier (inr has) =
       let some = move_low w.task shaped.task has.0 has.4.board via b has.1 has.3 in
       let plan = earlier (w.owner has.0) has.0 has.2 has.4 (omega (arith, has.5)) in
       (plan.0 ++ via ∷ [], plan.1 + has.1, one_more w.task.rule w.task.start plan.0 has.0 plan.1 via b has.1 plan.2 has.3, omega (arith, plan.3, has.5))
 
-  known_below : (m i : ℕ) (b : Position) (known : Known) → Knows w i b known → known.cost < m → IsLedTo w b known.cost
+  known_below : (m i : ℕ) (b : BoardModel) (known : Known) → Knows w i b known → known.cost < m → IsLedTo w b known.cost
   known_below zero i b known knows low = absurd (omega arith)
   known_below (suc m) i b known knows low = reached_from b known.cost known.via m low (λ j x k at lt. known_below m j x k at lt) (sound.reached i b known knows)
 
-  pub known_reached : (i : ℕ) (b : Position) (known : Known) → Knows w i b known → IsLedTo w b known.cost
+  pub known_reached : (i : ℕ) (b : BoardModel) (known : Known) → Knows w i b known → IsLedTo w b known.cost
   known_reached i b known knows = known_below (suc known.cost) i b known knows (omega arith)
 
   pub items_reached : (to : ℕ) (item : Item) → IsUnderWay w to item → IsLedTo w item.board item.cost
   items_reached to item way = reached_from item.board item.cost item.via item.cost (omega arith) (λ j x k at lt. known_reached j x k at) (sound.items_reached to item way)
 
 -- a plan by last moves, with one more
-longer : (w : WorldState) (plan : List Move) (a x b : Position) (c : ℕ) (known : Known) → IsByLastMoves w a plan x → Moves w.task.rule x known.via b c → Knows w (w.owner b) b known → IsByLastMoves w a (plan ++ known.via ∷ []) b
-longer w [] a x b c known by moves knows = (b, c, known, subst (λ (p : Position). Moves w.task.rule p known.via b c) (sym by) moves, knows, refl, refl)
+longer : (w : WorldState) (plan : List Move) (a x b : BoardModel) (c : ℕ) (known : Known) → IsByLastMoves w a plan x → Moves w.task.rule x known.via b c → Knows w (w.owner b) b known → IsByLastMoves w a (plan ++ known.via ∷ []) b
+longer w [] a x b c known by moves knows = (b, c, known, subst (λ (p : BoardModel). Moves w.task.rule p known.via b c) (sym by) moves, knows, refl, refl)
 longer w (m ∷ plan) a x b c known (next, d, k, first, there, via, rest) moves knows = (next, d, k, first, there, via, longer w plan next x b c known rest moves knows)
 
 module _ (w : WorldState) (shaped : IsShaped w) (sound : IsSound w) where
-  abbrev LeadsBack : Position → ℕ → Type 0
+  abbrev LeadsBack : BoardModel → ℕ → Type 0
   LeadsBack b cost = (plan : List Move) × (k : ℕ) × Leads w.task.rule w.task.start plan b k × (k ≤ cost) × IsByLastMoves w w.task.start plan b
 
-  back_from : (b : Position) (known : Known) (m i : ℕ) → Knows w i b known → known.cost < suc m → ((j : ℕ) (x : Position) (k : Known) → Knows w j x k → k.cost < m → LeadsBack x k.cost) → HasPredecessor w b known.cost known.via → LeadsBack b known.cost
+  back_from : (b : BoardModel) (known : Known) (m i : ℕ) → Knows w i b known → known.cost < suc m → ((j : ℕ) (x : BoardModel) (k : Known) → Knows w j x k → k.cost < m → LeadsBack x k.cost) → HasPredecessor w b known.cost known.via → LeadsBack b known.cost
   back_from b known m i knows low earlier (inl start) = ([], 0, (start.0, refl), omega arith, sym start.0)
   back_from b known m i knows low earlier (inr has) =
       let some = move_low w.task shaped.task has.0 has.4.board known.via b has.1 has.3 in
@@ -138,7 +138,7 @@ module _ (w : WorldState) (shaped : IsShaped w) (sound : IsSound w) where
         longer w plan.0 w.task.start has.0 b has.1 known plan.4 has.3 (subst (λ j. Knows w j b known) (sym own) knows),
       )
 
-  back_below : (m i : ℕ) (b : Position) (known : Known) → Knows w i b known → known.cost < m → LeadsBack b known.cost
+  back_below : (m i : ℕ) (b : BoardModel) (known : Known) → Knows w i b known → known.cost < m → LeadsBack b known.cost
   back_below zero i b known knows low = absurd (omega arith)
   back_below (suc m) i b known knows low = back_from b known m i knows low (λ j x k at lt. back_below m j x k at lt) (sound.reached i b known knows)
 
@@ -173,7 +173,7 @@ lesser_none_second (Some a) (Some b) is = cc
 
 module _ (w : WorldState) (shaped : IsShaped w) (sound : IsSound w) (bound : IsLowerBound w.task.rule w.task.sum w.task.goal) (lowest reached : Option ℕ) (is_lowest : IsLowest w lowest) (is_reached : IsReached w reached) where
   below_frontier : (n : ℕ) → lesser lowest reached ≡ Some n → BelowFrontier w n
-  below_frontier n is b cost here = lesser_first (λ f. (x : Position) × (c : ℕ) × IsInFrontier w x c × (f ≡ c + w.task.sum x)) lowest reached n is is_lowest (cost + w.task.sum b) (b, cost, here, refl)
+  below_frontier n is b cost here = lesser_first (λ f. (x : BoardModel) × (c : ℕ) × IsInFrontier w x c × (f ≡ c + w.task.sum x)) lowest reached n is is_lowest (cost + w.task.sum b) (b, cost, here, refl)
 
   below_reached : (n : ℕ) → lesser lowest reached ≡ Some n → BelowReached w n
   below_reached n is known knows = lesser_second (λ cost. (k : Known) × Knows w (w.owner w.task.goal) w.task.goal k × (k.cost ≡ cost)) lowest reached n is is_reached known.cost (known, knows, refl)
@@ -189,7 +189,7 @@ module _ (w : WorldState) (shaped : IsShaped w) (sound : IsSound w) (bound : IsL
   -- where nothing is left and the goal is unknown no plan leads there
   no_plan : lesser lowest reached ≡ None → (plan : List Move) (k : ℕ) → Leads w.task.rule w.task.start plan w.task.goal k → ⊥
   no_plan none plan k leads =
-      let no_lowest = subst (IsLeastWith (λ f. (x : Position) × (c : ℕ) × IsInFrontier w x c × (f ≡ c + w.task.sum x))) (lesser_none_first lowest reached none) is_lowest in
+      let no_lowest = subst (IsLeastWith (λ f. (x : BoardModel) × (c : ℕ) × IsInFrontier w x c × (f ≡ c + w.task.sum x))) (lesser_none_first lowest reached none) is_lowest in
       let no_reached = subst (IsLeastWith (λ cost. (known : Known) × Knows w (w.owner w.task.goal) w.task.goal known × (known.cost ≡ cost))) (lesser_none_second lowest reached none) is_reached in
       let h = frontier_bounds w shaped sound bound (suc k) (λ b cost here. absurd (no_lowest (cost + w.task.sum b) (b, cost, here, refl))) (λ known knows. absurd (no_reached known.cost (known, knows, refl))) plan k leads in
       omega arith
@@ -199,7 +199,7 @@ module _ (w : WorldState) (shaped : IsShaped w) (sound : IsSound w) (bound : IsL
   above_start k is above = let e = is.2 in omega arith
 
   -- a board that has a row is expanded
-  row_expanded : (k : ℕ) (rows : List (Position × ℕ)) → IsBoundOf (end_at w lowest reached) k → w.task.sum w.task.start < k → (i : ℕ) (r : Position) (known : Known) → Knows w i r known → known.cost + w.task.sum r < k → (r ≢ w.task.goal) × (known.expanded ≡ true)
+  row_expanded : (k : ℕ) (rows : List (BoardModel × ℕ)) → IsBoundOf (end_at w lowest reached) k → w.task.sum w.task.start < k → (i : ℕ) (r : BoardModel) (known : Known) → Knows w i r known → known.cost + w.task.sum r < k → (r ≢ w.task.goal) × (known.expanded ≡ true)
   row_expanded k rows is above i r known knows low =
       let n : k ≡ is.0 = above_start k is above in
       let other : r ≢ w.task.goal = λ same.
@@ -209,7 +209,7 @@ module _ (w : WorldState) (shaped : IsShaped w) (sound : IsSound w) (bound : IsL
       (other, ⊎_elim (λ (e : known.expanded ≡ true). e) (λ (e : known.expanded ≡ false). absurd (let le = below_frontier is.0 is.1 r known.cost (inl (i, known, knows, e, other, refl)) in omega arith)) (cases_Bool known.expanded))
 
   -- a board that is covered has a row, or its sum reaches the cost
-  covered_row : (k : ℕ) (rows : List (Position × ℕ)) → IsBoundOf (end_at w lowest reached) k → w.task.sum w.task.start < k → AreRowsBelow w k rows → (b : Position) (cost : ℕ) → IsCovered w b cost → (k ≤ w.task.sum b + cost) ⊎ HasRow rows b cost
+  covered_row : (k : ℕ) (rows : List (BoardModel × ℕ)) → IsBoundOf (end_at w lowest reached) k → w.task.sum w.task.start < k → AreRowsBelow w k rows → (b : BoardModel) (cost : ℕ) → IsCovered w b cost → (k ≤ w.task.sum b + cost) ⊎ HasRow rows b cost
   covered_row k rows is above many b cost (inl has) =
       ⊎_elim
       (λ (lt : has.0.cost + w.task.sum b < k). inr (has.0.cost, (many.each b has.0.cost).1 (w.owner b, has.0, has.1, refl, lt), has.2))
@@ -220,11 +220,11 @@ module _ (w : WorldState) (shaped : IsShaped w) (sound : IsSound w) (bound : IsL
       let le = offer_low w is.0 (below_frontier is.0 is.1) b cost has in
       inl (omega arith)
 
-  no_row_in : (rows : List (Position × ℕ)) (row : Position × ℕ) → rows ≡ [] → Contains rows row → ⊥
+  no_row_in : (rows : List (BoardModel × ℕ)) (row : BoardModel × ℕ) → rows ≡ [] → Contains rows row → ⊥
   no_row_in rows row empty has = let n = ap length empty in omega (arith, has.1)
 
   -- the known boards below the cost prove it
-  rows_prove : (k : ℕ) (rows : List (Position × ℕ)) → IsBoundOf (end_at w lowest reached) k → AreRowsFor w k rows → Proves w.task.rule rows w.task.sum w.task.start w.task.goal k
+  rows_prove : (k : ℕ) (rows : List (BoardModel × ℕ)) → IsBoundOf (end_at w lowest reached) k → AreRowsFor w k rows → Proves w.task.rule rows w.task.sum w.task.start w.task.goal k
   rows_prove k rows is (inl few) = record {
     start = inr few.0;
     no_goal = λ g has. no_row_in rows (w.task.goal, g) few.1 has;
@@ -242,12 +242,12 @@ module _ (w : WorldState) (shaped : IsShaped w) (sound : IsSound w) (bound : IsL
         covered_row k rows is many.0 many.1 r' (g + c) (subst (λ x. IsCovered w r' (x + c)) row.3 next);
   }
 
-rows_rising : (w : WorldState) (k : ℕ) (rows : List (Position × ℕ)) → AreRowsFor w k rows → AllPairs (λ row later. key_of row.0 < key_of later.0) rows
+rows_rising : (w : WorldState) (k : ℕ) (rows : List (BoardModel × ℕ)) → AreRowsFor w k rows → AllPairs (λ row later. key_of row.0 < key_of later.0) rows
 rows_rising w k rows (inl few) = λ i j d lt j_in. let n = ap length few.1 in absurd (omega arith)
 rows_rising w k rows (inr many) = many.1.rising
 
 -- a row is a board that is known so
-row_known : (w : WorldState) (k : ℕ) (rows : List (Position × ℕ)) → AreRowsFor w k rows → (row : Position × ℕ) → Contains rows row → IsKnownBelow w k row.0 row.1
+row_known : (w : WorldState) (k : ℕ) (rows : List (BoardModel × ℕ)) → AreRowsFor w k rows → (row : BoardModel × ℕ) → Contains rows row → IsKnownBelow w k row.0 row.1
 row_known w k rows (inl few) row has = let n = ap length few.1 in absurd (omega (arith, has.1))
 row_known w k rows (inr many) row has = (many.1.each row.0 row.1).0 has
 
@@ -286,7 +286,7 @@ module _ (w : WorldState) (quiet : IsQuiet w) (lowest reached : Option ℕ) (is_
       omega (arith, low.0.3)
 
 module _ (w : WorldState) (shaped : IsShaped w) (sound : IsSound w) (bound : IsLowerBound w.task.rule w.task.sum w.task.goal) (lowest reached : Option ℕ) (is_lowest : IsLowest w lowest) (is_reached : IsReached w reached) where
-  rows_of : (n : ℕ) (rows : List (Position × ℕ)) → IsBoundOf (end_at w lowest reached) n → AreRowsFor w n rows → AreRowsOf w.task rows n
+  rows_of : (n : ℕ) (rows : List (BoardModel × ℕ)) → IsBoundOf (end_at w lowest reached) n → AreRowsFor w n rows → AreRowsOf w.task rows n
   rows_of n rows is listed = record {
     proves = rows_prove w shaped sound bound lowest reached is_lowest is_reached n rows is listed;
     rising = rows_rising w n rows listed;
@@ -323,14 +323,14 @@ module _ (w : WorldState) (shaped : IsShaped w) (sound : IsSound w) (bound : IsL
   stopped_bound n (Some best) cause stopped = stopped.0
 
   -- what is known or under way has a cost plus sum that isn't high
-  sum_low : (most : ℕ) → IsAboveSums w.task most → (b : Position) (cost : ℕ) → IsInFrontier w b cost → cost + w.task.sum b ≤ GREATEST_COST + most
+  sum_low : (most : ℕ) → IsAboveSums w.task most → (b : BoardModel) (cost : ℕ) → IsInFrontier w b cost → cost + w.task.sum b ≤ GREATEST_COST + most
   sum_low most above b cost (inl (i, known, knows, closed, other, at)) =
       let low = (knows_owned w shaped i b known knows).1 in
       let le = above b knows.board.0 knows.board.1 in
       omega (arith, at)
   sum_low most above b cost (inr (to, item, way, is, at)) =
       let owned = offer_owned w shaped to item way in
-      let le : w.task.sum b ≤ most = subst (λ (x : Position). w.task.sum x ≤ most) is (above item.board owned.0.0 owned.0.1) in
+      let le : w.task.sum b ≤ most = subst (λ (x : BoardModel). w.task.sum x ≤ most) is (above item.board owned.0.0 owned.0.1) in
       omega (arith, at, owned.2)
 
   low_of : (most : ℕ) → IsAboveSums w.task most → (f : ℕ) → IsLowest w (Some f) → f ≤ GREATEST_COST + most
@@ -379,7 +379,7 @@ module _ (w : WorldState) (shaped : IsShaped w) (sound : IsSound w) (bound : IsL
   answers_at quiet (Bounded n best cause None) given = (alone_true n best cause given.0, (given.0.1, given.0.2), proof_of n given.0.0)
 
   -- the rows of a bound prove it
-  rows_at : (n : ℕ) (best : Option (ℕ × Vec Move Global)) (cause : Cause) (rows : List (Position × ℕ)) → IsStoppedAt (end_at w lowest reached) n best cause → AreRowsFor w n rows → AreRowsOf w.task rows n
+  rows_at : (n : ℕ) (best : Option (ℕ × Vec Move Global)) (cause : Cause) (rows : List (BoardModel × ℕ)) → IsStoppedAt (end_at w lowest reached) n best cause → AreRowsFor w n rows → AreRowsOf w.task rows n
   rows_at n best cause rows stopped listed = rows_of n rows (stopped_bound n best cause stopped) listed
 
   bounded_true : QuietIsTrueIn w → (n : ℕ) (best : Option (ℕ × Vec Move Global)) (cause : Cause) → IsStoppedAt (end_at w lowest reached) n best cause ⊎ IsAloneAt (end_at w lowest reached) n best cause → IsTrueBound w.task n best cause × HasProof w.task n
@@ -390,7 +390,7 @@ pub bounds_true : BoundsAreTrue
 bounds_true w n best cause shaped sound quiet bound bounded = bounded_true w shaped sound bound bounded.0 bounded.1 bounded.2 bounded.3 quiet n best cause bounded.4
 
 -- the rows of the bound that a sound world gives prove it
-pub bound_rows : (w : WorldState) (n : ℕ) (best : Option (ℕ × Vec Move Global)) (cause : Cause) (rows : Vec (Position × ℕ) Global) → IsShaped w → IsSound w → IsLowerBound w.task.rule w.task.sum w.task.goal → IsGiven w (Bounded n best cause (Some rows)) → AreRowsOf w.task rows.items n
+pub bound_rows : (w : WorldState) (n : ℕ) (best : Option (ℕ × Vec Move Global)) (cause : Cause) (rows : Vec (BoardModel × ℕ) Global) → IsShaped w → IsSound w → IsLowerBound w.task.rule w.task.sum w.task.goal → IsGiven w (Bounded n best cause (Some rows)) → AreRowsOf w.task rows.items n
 bound_rows w n best cause rows shaped sound bound given = rows_at w shaped sound bound given.0 given.1 given.2 given.3 n best cause rows.items given.4.0 given.4.1
 
 -- the outcome of a sound world answers its task
@@ -412,7 +412,7 @@ no_least : (P : ℕ → Type 0) → ¬ ((o : Option ℕ) → ¬ IsLeastWith P o)
 no_least P none = none None (λ n has. none_from P (λ k least. none (Some k) least) (suc n) n (omega arith) has)
 
 abbrev Row : Type 0
-Row = Position × ℕ
+Row = BoardModel × ℕ
 
 module _ (w : WorldState) (shaped : IsShaped w) (k : ℕ) where
   abbrev Listed : ℕ → Row → Type 0
@@ -429,7 +429,7 @@ module _ (w : WorldState) (shaped : IsShaped w) (k : ℕ) where
       let own = (knows_owned w shaped has.0 row.0 has.1 has.2).0 in
       (has.1, subst (λ j. Knows w j row.0 has.1) (sym own) has.2, has.3)
 
-  same_cost : (b : Position) (x y : Known) → Knows w (w.owner b) b x → Knows w (w.owner b) b y → x.cost ≡ y.cost
+  same_cost : (b : BoardModel) (x y : Known) → Knows w (w.owner b) b x → Knows w (w.owner b) b y → x.cost ≡ y.cost
   same_cost b x y knows knows' =
       let worker : Some knows.worker ≡ Some knows'.worker = sym knows.is ∙ knows'.is in
       let worker' : knows.worker ≡ knows'.worker = cc in
@@ -441,7 +441,7 @@ module _ (w : WorldState) (shaped : IsShaped w) (k : ℕ) where
       let board : row.0 ≡ other.0 = same_key w.task row.0 other.0 has.2.board has'.2.board same in
       let here = known_there row has in
       let there = known_there other has' in
-      let moved : Knows w (w.owner row.0) row.0 there.0 = subst (λ (p : Position). Knows w (w.owner p) p there.0) (sym board) there.1 in
+      let moved : Knows w (w.owner row.0) row.0 there.0 = subst (λ (p : BoardModel). Knows w (w.owner p) p there.0) (sym board) there.1 in
       let cost : row.1 ≡ other.1 = sym here.2 ∙ same_cost row.0 here.0 there.0 here.1 moved ∙ there.2 in
       λ t. (board t, cost t)
 
@@ -482,7 +482,7 @@ module _ (w : WorldState) (shaped : IsShaped w) (k : ℕ) where
   rows_below : ¬ ((rows : List Row) → ¬ AreRowsBelow w k rows)
   rows_below none = rows_up_to (32 ^ cell_count w.task.goal.grid) (λ rows are. none rows (record { rising = are.rising; each = λ b cost. ((λ at. (are.only (b, cost) at).0), λ has. are.all (b, cost) (has, low b cost has)) }))
     where
-      low : (b : Position) (cost : ℕ) → IsKnownBelow w k b cost → key_of b < 32 ^ cell_count w.task.goal.grid
+      low : (b : BoardModel) (cost : ℕ) → IsKnownBelow w k b cost → key_of b < 32 ^ cell_count w.task.goal.grid
       low b cost has = subst (λ g. key_of b < 32 ^ cell_count g) has.2.board.1 (key_of-lt b has.2.board.0)
 
   no_rows_for : ¬ ((rows : List Row) → ¬ AreRowsFor w k rows)
@@ -558,5 +558,5 @@ module _ (w : WorldState) (shaped : IsShaped w) (sound : IsSound w) (none : (mov
 
 pub worlds_give : WorldsGiveOutcomes
 worlds_give w shaped sound none =
-    no_least (λ f. (b : Position) × (cost : ℕ) × IsInFrontier w b cost × (f ≡ cost + w.task.sum b))
+    no_least (λ f. (b : BoardModel) × (cost : ℕ) × IsInFrontier w b cost × (f ≡ cost + w.task.sum b))
     (λ lowest low. no_least (λ cost. (known : Known) × Knows w (w.owner w.task.goal) w.task.goal known × (known.cost ≡ cost)) (λ reached at. split w shaped sound none lowest reached low at))

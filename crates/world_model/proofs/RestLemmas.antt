@@ -5,7 +5,7 @@ use Rattle.std.specs.FinMap as map
 use Rattle.std.proofs.lemmas.Bool.{cases_lt}
 use Rattle.std.proofs.lemmas.List.Elements.{All-set}
 use Rattle.memory.specs.declared.OutOfMemory.{OutOfMemory}
-use Rattle.board.specs.Positions.{Position}
+use Rattle.board.specs.Boards.{BoardModel}
 use Rattle.search_keys.specs.SearchKeys.{search_key}
 use Rattle.outcomes.specs.Outcomes.{Task}
 use Rattle.world_model.specs.declared.parts.Item.{Item}
@@ -156,7 +156,7 @@ memory_last (Rest i) w refused = sober_last (OnBook i (RestStep (role_of w i))) 
 memory_last (Halt i cause) w refused = sober_last (OnBook i (HaltStep cause)) (book_sober i (HaltStep cause) (halt_sober cause)) w refused
 
 -- what an expansion closes
-module _ (role : Role) (x : WorkerState) (b : Position) (before after : Known) (opens : IsOpen role.task x b before) (closed : after.expanded ≡ true) where
+module _ (role : Role) (x : WorkerState) (b : BoardModel) (before after : Known) (opens : IsOpen role.task x b before) (closed : after.expanded ≡ true) where
   abbrev Least : Option Refusal → Type 0
   Least answer = IsNext role.task x b before × (before.cost + role.task.sum b < limit_of x.best) × (answer ≡ None)
 
@@ -169,11 +169,11 @@ module _ (role : Role) (x : WorkerState) (b : Position) (before after : Known) (
   below_limit : (f : ℕ) → HasNothingBelow role.task x f → ¬ HasNothingBelow role.task x (limit_of x.best) → f < limit_of x.best
   below_limit f least busy = ⊎_elim (λ (lt : f < limit_of x.best). lt) (λ (le : limit_of x.best ≤ f). absurd (busy (λ c known at. let h = least c known at in omega arith))) (cases_lt f (limit_of x.best))
 
-  picked : (c : Position) (known : Known) → IsNext role.task x c known → ¬ HasNothingBelow role.task x (limit_of x.best) → search_key b ≡ search_key c → IsNext role.task x b before × (before.cost + role.task.sum b < limit_of x.best)
+  picked : (c : BoardModel) (known : Known) → IsNext role.task x c known → ¬ HasNothingBelow role.task x (limit_of x.best) → search_key b ≡ search_key c → IsNext role.task x b before × (before.cost + role.task.sum b < limit_of x.best)
   picked c known next busy same =
       let board : b ≡ c = same_search_key role.task b c opens.board next.opens.board same in
-      let e : known ≡ before = same_known x.known (search_key b) known before (subst (λ (p : Position). map.get x.known (search_key p) ≡ Some known) (sym board) next.opens.knows) opens.knows in
-      let mine : IsNext role.task x b before = subst (λ (q : Position × Known). IsNext role.task x q.0 q.1) (λ t. (sym board t, e t)) next in
+      let e : known ≡ before = same_known x.known (search_key b) known before (subst (λ (p : BoardModel). map.get x.known (search_key p) ≡ Some known) (sym board) next.opens.knows) opens.knows in
+      let mine : IsNext role.task x b before = subst (λ (q : BoardModel × Known). IsNext role.task x q.0 q.1) (λ t. (sym board t, e t)) next in
       (mine, below_limit (before.cost + role.task.sum b) mine.least busy)
 
   expanded_then : (y : WorkerState) (answer : Option Refusal) → answer ≡ None → Expands role x y → KnowsAs y b after → Least answer

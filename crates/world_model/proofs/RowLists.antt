@@ -10,7 +10,7 @@ use Rattle.std.proofs.lemmas.Option.{slice_get_within}
 use Rattle.std.proofs.lemmas.List.Elements.{Contains-append_left, Contains-append_right, Contains-append_cases, Contains-get_or}
 use Rattle.std.proofs.lemmas.List.Kept.{AllPairs-cons}
 use Rattle.board.specs.Keys.{key_of}
-use Rattle.board.specs.Positions.{Position}
+use Rattle.board.specs.Boards.{BoardModel}
 use Rattle.search_keys.specs.SearchKeys.{search_key}
 use Rattle.outcomes.specs.Outcomes.{Task}
 use Rattle.world_model.specs.declared.parts.Known.{Known}
@@ -85,7 +85,7 @@ listed_below R (suc n) each =
 
 -- a row: a board, and the cost at which it is known
 abbrev Row : Type 0
-Row = Position × ℕ
+Row = BoardModel × ℕ
 
 -- each row has a greater key than n
 abbrev AreAbove : ℕ → List Row → Type 0
@@ -286,7 +286,7 @@ module _ (w : WorldState) (k : ℕ) (shaped : IsShaped w) where
       λ t. (board t, cost t)
 
 -- the rows that an outcome of the world has exist
-pub rows_exist : (w : WorldState) (k : ℕ) → IsShaped w → (rows : List (Position × ℕ)) × AreRowsFor w k rows
+pub rows_exist : (w : WorldState) (k : ℕ) → IsShaped w → (rows : List (BoardModel × ℕ)) × AreRowsFor w k rows
 rows_exist w k shaped =
     ⊎_elim
     (λ (lt : w.task.sum w.task.start < k).

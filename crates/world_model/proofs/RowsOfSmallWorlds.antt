@@ -5,9 +5,9 @@ use Rattle.std.specs.FinMap as map
 use Rattle.std.proofs.lemmas.Bool.{eqb-true, lt-ltb}
 use Rattle.std.proofs.lemmas.List.Elements.{All-cons}
 use Rattle.std.proofs.lemmas.List.Kept.{AllPairs-cons}
-use Rattle.board.specs.Grids.{Grid}
+use Rattle.board.specs.Shapes.{ShapeModel}
 use Rattle.board.specs.Keys.{key_of}
-use Rattle.board.specs.Positions.{Position, IsBoard}
+use Rattle.board.specs.Boards.{BoardModel, IsBoard}
 use Rattle.search_keys.specs.SearchKeys.{search_key}
 use Rattle.outcomes.specs.Outcomes.{Task}
 use Rattle.world_model.specs.declared.parts.Known.{Known}
@@ -20,14 +20,14 @@ use Rattle.world_model.proofs.SmallWorlds.{contained_in, gather, gather_from, ga
 
 -- a board with the cost at which it is known
 abbrev pub Row : Type 0
-Row = Position × ℕ
+Row = BoardModel × ℕ
 
 -- the rows of some entries, of those whose cost plus sum is below k
 abbrev with_row : Bool → Row → List Row → List Row
 with_row true row rest = row ∷ rest
 with_row false row rest = rest
 
-abbrev row_of : Position × Known → Row
+abbrev row_of : BoardModel × Known → Row
 row_of e = (e.0, e.1.cost)
 
 abbrev rows_of : Task → ℕ → Entries → List Row
@@ -36,9 +36,9 @@ rows_of task k (e ∷ es) = with_row (nat_lt (cost_of task e) k) (row_of e) (row
 
 -- the row is of an entry whose cost plus sum is below k
 abbrev HasRow : Task → ℕ → Entries → Row → Type 0
-HasRow task k es row = (e : Position × Known) × In es e × (cost_of task e < k) × (row_of e ≡ row)
+HasRow task k es row = (e : BoardModel × Known) × In es e × (cost_of task e < k) × (row_of e ≡ row)
 
-later_row : (task : Task) (k : ℕ) (e : Position × Known) (es : Entries) (row : Row) → HasRow task k es row → HasRow task k (e ∷ es) row
+later_row : (task : Task) (k : ℕ) (e : BoardModel × Known) (es : Entries) (row : Row) → HasRow task k es row → HasRow task k (e ∷ es) row
 later_row task k e es row has = (has.0, inr has.1, has.2, has.3)
 
 -- a later row stays, and the first is there if it is below
@@ -51,13 +51,13 @@ row_first true is row rest = inl refl
 row_first false is row rest = absurd (cc)
 
 -- an entry below k has its row
-row_in : (task : Task) (k : ℕ) (es : Entries) (e : Position × Known) → In es e → nat_lt (cost_of task e) k ≡ true → In (rows_of task k es) (row_of e)
+row_in : (task : Task) (k : ℕ) (es : Entries) (e : BoardModel × Known) → In es e → nat_lt (cost_of task e) k ≡ true → In (rows_of task k es) (row_of e)
 row_in task k [] e has low = absurd has
-row_in task k (x ∷ es) e (inl same) low = subst (λ (y : Position × Known). In (rows_of task k (x ∷ es)) (row_of y)) same (row_first (nat_lt (cost_of task x) k) (ap (λ (y : Position × Known). nat_lt (cost_of task y) k) same ∙ low) (row_of x) (rows_of task k es))
+row_in task k (x ∷ es) e (inl same) low = subst (λ (y : BoardModel × Known). In (rows_of task k (x ∷ es)) (row_of y)) same (row_first (nat_lt (cost_of task x) k) (ap (λ (y : BoardModel × Known). nat_lt (cost_of task y) k) same ∙ low) (row_of x) (rows_of task k es))
 row_in task k (x ∷ es) e (inr later) low = row_kept (nat_lt (cost_of task x) k) (row_of x) (rows_of task k es) (row_of e) (row_in task k es e later low)
 
 -- and each row is of an entry below k
-row_cases : (task : Task) (k : ℕ) (x : Position × Known) (es : Entries) (row : Row) → (In (rows_of task k es) row → HasRow task k es row) → (b : Bool) → nat_lt (cost_of task x) k ≡ b → In (with_row b (row_of x) (rows_of task k es)) row → HasRow task k (x ∷ es) row
+row_cases : (task : Task) (k : ℕ) (x : BoardModel × Known) (es : Entries) (row : Row) → (In (rows_of task k es) row → HasRow task k es row) → (b : Bool) → nat_lt (cost_of task x) k ≡ b → In (with_row b (row_of x) (rows_of task k es)) row → HasRow task k (x ∷ es) row
 row_cases task k x es row rest true low (inl same) = (x, inl refl, (lt_tests (cost_of task x) k).0 low, same)
 row_cases task k x es row rest true low (inr later) = later_row task k x es row (rest later)
 row_cases task k x es row rest false low later = later_row task k x es row (rest later)
@@ -80,10 +80,10 @@ same_numbers [] (y ∷ ys) = false
 same_numbers (x ∷ xs) [] = false
 same_numbers (x ∷ xs) (y ∷ ys) = (x == y) && same_numbers xs ys
 
-abbrev same_grid : Grid → Grid → Bool
+abbrev same_grid : ShapeModel → ShapeModel → Bool
 same_grid a b = (a.rows == b.rows) && (a.cols == b.cols)
 
-abbrev same_board : Position → Position → Bool
+abbrev same_board : BoardModel → BoardModel → Bool
 same_board a b = same_grid a.grid b.grid && same_numbers a.tiles b.tiles
 
 abbrev same_row : Row → Row → Bool
@@ -105,7 +105,7 @@ numbers_are (x ∷ xs) (y ∷ ys) e =
     let rest = numbers_are xs ys h.1 in
     λ t. first t ∷ rest t
 
-board_is_same : (a b : Position) → same_board a b ≡ true → a ≡ b
+board_is_same : (a b : BoardModel) → same_board a b ≡ true → a ≡ b
 board_is_same a b e =
     let h = both (same_grid a.grid b.grid) (same_numbers a.tiles b.tiles) e in
     let sides = both (a.grid.rows == b.grid.rows) (a.grid.cols == b.grid.cols) h.0 in
@@ -169,12 +169,12 @@ all_rise_is (r ∷ rs) e = let h = both (is_below_all r rs) (all_rise rs) e in A
 abbrev pub are_rows : Task → ℕ → SmallWorld → List Row → Bool
 are_rows task k s rows = all_rise rows && (has_rows rows (all_rows task k s) && has_rows (all_rows task k s) rows)
 
-module _ (task : Task) (owner : Position → ℕ) (goal : IsBoard task.goal) (s : SmallWorld) (boards : AllBoards task s.workers) (k : ℕ) where
+module _ (task : Task) (owner : BoardModel → ℕ) (goal : IsBoard task.goal) (s : SmallWorld) (boards : AllBoards task s.workers) (k : ℕ) where
   abbrev w : WorldState
   w = world_of task owner s
 
   -- what is known below k is among the rows of all workers, and no other row is
-  known_row : (b : Position) (cost : ℕ) → IsKnownBelow w k b cost → In (all_rows task k s) (b, cost)
+  known_row : (b : BoardModel) (cost : ℕ) → IsKnownBelow w k b cost → In (all_rows task k s) (b, cost)
   known_row b cost (i, known, knows, same, low) =
       let x = small_worker task owner goal s boards i knows.worker knows.is in
       let looked : look_up x.0.entries (search_key b) ≡ Some known = sym (found x.0.entries (search_key b)) ∙ ap (λ (y : WorkerState). map.get y.known (search_key b)) (sym x.2) ∙ knows.knows in

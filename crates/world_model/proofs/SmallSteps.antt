@@ -3,7 +3,7 @@ use Rattle.std.proofs.Common.{◌≡◌, ◌≢◌, ◌⊎◌, ℕ, zero, suc, �
 use Rattle.std.specs.Prelude.{All, Any, if◌then◌else◌, ◌==◌, ◌&&◌, nat_lt, slice_get, slice_set, unwrap_or}
 use Rattle.std.proofs.lemmas.Bool.{cases_Bool, eqb-true, eqb-false, ltb-true, ltb-false}
 use Rattle.std.proofs.lemmas.List.Elements.{All-cons}
-use Rattle.board.specs.Positions.{Position, IsBoard}
+use Rattle.board.specs.Boards.{BoardModel, IsBoard}
 use Rattle.search_keys.specs.SearchKeys.{search_key}
 use Rattle.outcomes.specs.Outcomes.{Task}
 use Rattle.world_model.specs.declared.limits.TheConstants.{CREDIT_DRAWN, PACKET_LIMIT, LANE_LIMIT}
@@ -111,15 +111,15 @@ not_below_tests None y = (λ e. tt, λ e. absurd (cc))
 not_below_tests (Some x) None = (λ e. absurd (cc), λ e no. no)
 not_below_tests (Some x) (Some y) = let t = not_tests (nat_lt x y) (x < y) (lt_tests x y) in (λ e. ⊎_elim (λ (lt : ltb x y ≡ true). absurd (t.0 e (ltb-true x y lt))) (λ (ge : ltb x y ≡ false). ltb-false x y ge) (cases_Bool (ltb x y)), λ e le. t.1 e (λ lt. omega arith))
 
-abbrev pub nothing_below : Task → Option (Position × Known) → ℕ → Bool
+abbrev pub nothing_below : Task → Option (BoardModel × Known) → ℕ → Bool
 nothing_below task None limit = true
 nothing_below task (Some e) limit = not (nat_lt (cost_of task e) limit)
 
-abbrev pub the_least : Task → Small → Option (Position × Known)
+abbrev pub the_least : Task → Small → Option (BoardModel × Known)
 the_least task s = least task (open_list task s)
 
 -- the cost plus sum of an entry
-abbrev pub floor_cost : Task → Option (Position × Known) → Option ℕ
+abbrev pub floor_cost : Task → Option (BoardModel × Known) → Option ℕ
 floor_cost task None = None
 floor_cost task (Some e) = Some (cost_of task e)
 
@@ -132,7 +132,7 @@ abbrev pub is_idle : Task → Small → ℕ → Option ℕ → Bool
 is_idle task s limit best = (is_nil s.held && all_nil s.unsent) && (nothing_below task (the_least task s) limit && no_better (look_up s.entries (search_key task.goal)) best)
 
 module _ (task : Task) (goal : IsBoard task.goal) (s : Small) (boards : AreBoards task s.entries) where
-  below_tests_at : (o : Option (Position × Known)) → IsLeastIn task (open_list task s) o → (limit : ℕ) → Tests (nothing_below task o limit) (HasNothingBelow task (worker_of s) limit)
+  below_tests_at : (o : Option (BoardModel × Known)) → IsLeastIn task (open_list task s) o → (limit : ℕ) → Tests (nothing_below task o limit) (HasNothingBelow task (worker_of s) limit)
   below_tests_at None none limit = (λ e b known at. absurd (none (b, known) (open_listed task goal s boards b known at)), λ e. absurd (cc))
   below_tests_at (Some e) is limit =
       let t = not_tests (nat_lt (cost_of task e) limit) (cost_of task e < limit) (lt_tests (cost_of task e) limit) in (
@@ -145,10 +145,10 @@ module _ (task : Task) (goal : IsBoard task.goal) (s : Small) (boards : AreBoard
   pub below_tests : (limit : ℕ) → Tests (nothing_below task (the_least task s) limit) (HasNothingBelow task (worker_of s) limit)
   below_tests limit = below_tests_at (the_least task s) (least_is task (open_list task s)) limit
 
-  pub next_at : (e : Position × Known) → IsLeastIn task (open_list task s) (Some e) → IsNext task (worker_of s) e.0 e.1
+  pub next_at : (e : BoardModel × Known) → IsLeastIn task (open_list task s) (Some e) → IsNext task (worker_of s) e.0 e.1
   next_at e is = record { opens = open_there task goal s boards e is.0; least = λ b known at. is.1 (b, known) (open_listed task goal s boards b known at) }
 
-  floor_at : (o : Option (Position × Known)) → IsLeastIn task (open_list task s) o → IsFloor task (worker_of s) (floor_cost task o)
+  floor_at : (o : Option (BoardModel × Known)) → IsLeastIn task (open_list task s) o → IsFloor task (worker_of s) (floor_cost task o)
   floor_at None none = λ f has. none (has.0, has.1) (open_listed task goal s boards has.0 has.1 has.2)
   floor_at (Some e) is = ((e.0, e.1, open_there task goal s boards e is.0, refl), λ f has. let le = is.1 (has.0, has.1) (open_listed task goal s boards has.0 has.1 has.2) in omega (arith, has.3))
 
@@ -183,11 +183,11 @@ abbrev pub own_turn : Small → Done → Turn WorkerState Refusal
 own_turn s done = turn (worker_of s) done.0 (worker_of done.1)
 
 -- an expansion
-abbrev pub expand_room : Role → Small → Position × Known → Bool → Done
+abbrev pub expand_room : Role → Small → BoardModel × Known → Bool → Done
 expand_room role s e true = (Some NoRoom, s)
 expand_room role s e false = (None, small_expansion role s e.0 e.1)
 
-abbrev pub expand_by : Role → Small → Bool → Bool → Option (Position × Known) → Done
+abbrev pub expand_by : Role → Small → Bool → Bool → Option (BoardModel × Known) → Done
 expand_by role s true y o = (Some NothingBelowLimit, s)
 expand_by role s false true o = (Some NoAllowance, s)
 expand_by role s false false None = (None, s)
@@ -197,12 +197,12 @@ abbrev pub small_expand : Role → Small → Done
 small_expand role s =
     expand_by role s (nothing_below role.task (least role.task (open_list role.task s)) (limit_of s.best)) (s.allowance == 0) (least role.task (open_list role.task s))
 
-room_is : (role : Role) (s : Small) (e : Position × Known) (b : Bool) → Tests b (Over (small_expansion role s e.0 e.1).unsent) → Unless (own_turn s (expand_room role s e b)) (IsOverfull (expansion role (worker_of s) e.0 e.1)) NoRoom (WithMemory (own_turn s (expand_room role s e b)) (Becomes (own_turn s (expand_room role s e b)) (expansion role (worker_of s) e.0 e.1)))
+room_is : (role : Role) (s : Small) (e : BoardModel × Known) (b : Bool) → Tests b (Over (small_expansion role s e.0 e.1).unsent) → Unless (own_turn s (expand_room role s e b)) (IsOverfull (expansion role (worker_of s) e.0 e.1)) NoRoom (WithMemory (own_turn s (expand_room role s e b)) (Becomes (own_turn s (expand_room role s e b)) (expansion role (worker_of s) e.0 e.1)))
 room_is role s e true tests = inl (subst IsOverfull (sym (expansion_is role s e.0 e.1)) (tests.0 refl), (refl, refl))
 room_is role s e false tests = inr ((λ full. tests.1 refl (subst IsOverfull (expansion_is role s e.0 e.1) full)), inl (refl, sym (expansion_is role s e.0 e.1)))
 
 module _ (role : Role) (goal : IsBoard role.task.goal) (s : Small) (boards : AreBoards role.task s.entries) where
-  expand_at : (x y : Bool) (o : Option (Position × Known)) → Tests x (HasNothingBelow role.task (worker_of s) (limit_of s.best)) → Tests y (s.allowance ≡ 0) → IsLeastIn role.task (open_list role.task s) o → ExpandStep role (own_turn s (expand_by role s x y o))
+  expand_at : (x y : Bool) (o : Option (BoardModel × Known)) → Tests x (HasNothingBelow role.task (worker_of s) (limit_of s.best)) → Tests y (s.allowance ≡ 0) → IsLeastIn role.task (open_list role.task s) o → ExpandStep role (own_turn s (expand_by role s x y o))
   expand_at true y o tx ty is = inl (tx.0 refl, (refl, refl))
   expand_at false true o tx ty is = inr (tx.1 refl, inl (ty.0 refl, (refl, refl)))
   expand_at false false None tx ty none = absurd (tx.1 refl (λ b known at. absurd (none (b, known) (open_listed role.task goal s boards b known at))))

@@ -5,7 +5,7 @@ use Rattle.std.proofs.lemmas.Bool.{cases_lt, eqb-true, eqb-false}
 use Rattle.std.proofs.lemmas.Option.{slice_get-map, slice_get_within}
 use Rattle.std.proofs.lemmas.List.Elements.{Contains-push}
 use Rattle.std.specs.FinMap as entries
-use Rattle.board.specs.Positions.{Position, IsBoard}
+use Rattle.board.specs.Boards.{BoardModel, IsBoard}
 use Rattle.search_keys.specs.SearchKeys.{search_key}
 use Rattle.outcomes.specs.Outcomes.{Task}
 use Rattle.world_model.specs.declared.parts.Item.{Item}
@@ -79,7 +79,7 @@ fold_boards role (item ∷ items) s boards each =
     (if_both (λ (x : Small). AreBoards role.task x.entries) (role.owner item.board == role.me) _ _ (relax_boards role.task s.entries item boards (each item (inl refl))) boards)
     (λ x among. each x (inr among))
 
-expand_boards_at : (role : Role) (s : Small) → IsTask role.task → AreBoards role.task s.entries → (x y : Bool) (o : Option (Position × Known)) → IsLeastIn role.task (open_list role.task s) o → AreBoards role.task (expand_by role s x y o).1.entries
+expand_boards_at : (role : Role) (s : Small) → IsTask role.task → AreBoards role.task s.entries → (x y : Bool) (o : Option (BoardModel × Known)) → IsLeastIn role.task (open_list role.task s) o → AreBoards role.task (expand_by role s x y o).1.entries
 expand_boards_at role s is boards true y o least = boards
 expand_boards_at role s is boards false true o least = boards
 expand_boards_at role s is boards false false None least = boards
@@ -99,7 +99,7 @@ settle_boards : (task : Task) (s : Small) → AreBoards task s.entries → ((ite
 settle_boards task s boards each None is = boards
 settle_boards task s boards each (Some p) is = relax_boards task s.entries p.1 boards (each p.1 (subst (λ (xs : List Item). Contains xs p.1) (sym is) (Contains-push p.0 p.1)))
 
-module _ (task : Task) (owner : Position → ℕ) where
+module _ (task : Task) (owner : BoardModel → ℕ) where
   abbrev pub world_of : SmallWorld → WorldState
   world_of s = record { task = task; owner = owner; workers = map worker_of s.workers; book = s.book; lanes = s.lanes }
 
@@ -116,11 +116,11 @@ module _ (task : Task) (owner : Position → ℕ) where
   worker_is s i x at = slice_get-map worker_of s.workers i ∙ ap (option_map worker_of) at
 
   -- what a worker has among its entries it knows
-  pub known_in : (s : SmallWorld) (i : ℕ) (x : Small) (b : Position) (known : Known) → slice_get s.workers i ≡ Some x → IsTaskBoard task b → look_up x.entries (search_key b) ≡ Some known → Knows (world_of s) i b known
+  pub known_in : (s : SmallWorld) (i : ℕ) (x : Small) (b : BoardModel) (known : Known) → slice_get s.workers i ≡ Some x → IsTaskBoard task b → look_up x.entries (search_key b) ≡ Some known → Knows (world_of s) i b known
   known_in s i x b known at board is = record { worker = worker_of x; is = worker_is s i x at; board = board; knows = found x.entries (search_key b) ∙ is }
 
   -- the same of the first worker, computed
-  pub known_first : (s : SmallWorld) (b : Position) (known : Known) → look_first s.workers (search_key b) ≡ Some known → IsTaskBoard task b → Knows (world_of s) 0 b known
+  pub known_first : (s : SmallWorld) (b : BoardModel) (known : Known) → look_first s.workers (search_key b) ≡ Some known → IsTaskBoard task b → Knows (world_of s) 0 b known
   known_first s b known is board = first s.workers refl is
     where
       first : (workers : List Small) → s.workers ≡ workers → look_first workers (search_key b) ≡ Some known → Knows (world_of s) 0 b known
@@ -388,7 +388,7 @@ least_same : (P Q : ℕ → Type 0) → ((n : ℕ) → P n → Q n) → ((n : �
 least_same P Q there back None none = λ n q. none n (back n q)
 least_same P Q there back (Some k) is = (there k is.0, λ m q. is.1 m (back m q))
 
-module _ (task : Task) (owner : Position → ℕ) (goal : IsBoard task.goal) (s : SmallWorld) (boards : AllBoards task s.workers) where
+module _ (task : Task) (owner : BoardModel → ℕ) (goal : IsBoard task.goal) (s : SmallWorld) (boards : AllBoards task s.workers) where
   abbrev w : WorldState
   w = world_of task owner s
 
@@ -399,7 +399,7 @@ module _ (task : Task) (owner : Position → ℕ) (goal : IsBoard task.goal) (s 
   pub small_worker : (i : ℕ) (worker : WorkerState) → IsWorker w i worker → (x : Small) × (slice_get s.workers i ≡ Some x) × (worker ≡ worker_of x)
   small_worker i worker is = small_at i worker (slice_get s.workers i) refl is
 
-  open_in : (b : Position) (cost : ℕ) → IsOpenAt w b cost → In (all_costs task s) (cost + task.sum b)
+  open_in : (b : BoardModel) (cost : ℕ) → IsOpenAt w b cost → In (all_costs task s) (cost + task.sum b)
   open_in b cost has =
       let knows = has.2 in
       let x = small_worker has.0 knows.worker knows.is in
@@ -451,7 +451,7 @@ module _ (task : Task) (owner : Position → ℕ) (goal : IsBoard task.goal) (s 
           (to.0, inr (inr (from.0, packet.0, record { lane = lane.0; is = record { from_lanes = row.0; of_sender = from.1; of_receiver = to.1 }; lies = contained_in lane.0 packet.0 packet.1 }, contained_in packet.0 item packet.2)))
 
   abbrev IsFrontierCost : ℕ → Type 0
-  IsFrontierCost f = (b : Position) × (cost : ℕ) × IsInFrontier w b cost × (f ≡ cost + task.sum b)
+  IsFrontierCost f = (b : BoardModel) × (cost : ℕ) × IsInFrontier w b cost × (f ≡ cost + task.sum b)
 
   frontier_in : (f : ℕ) → IsFrontierCost f → In (all_costs task s) f
   frontier_in f has = subst (In (all_costs task s)) (sym has.3) (at has.2)
@@ -459,7 +459,7 @@ module _ (task : Task) (owner : Position → ℕ) (goal : IsBoard task.goal) (s 
       at : IsInFrontier w has.0 has.1 → In (all_costs task s) (has.1 + task.sum has.0)
       at (inl opens) = open_in has.0 has.1 opens
       at (inr way) =
-          subst (λ (p : Position × ℕ). In (all_costs task s) (p.1 + task.sum p.0)) (λ t. (way.3 t, way.4 t))
+          subst (λ (p : BoardModel × ℕ). In (all_costs task s) (p.1 + task.sum p.0)) (λ t. (way.3 t, way.4 t))
           (in_right (map (cost_of task) (all_open task s)) (map (item_cost task) (all_items s)) (item_cost task way.1) (map_in (item_cost task) (all_items s) way.1 (item_in way.0 way.1 way.2)))
 
   frontier_from : (f : ℕ) → In (all_costs task s) f → IsFrontierCost f

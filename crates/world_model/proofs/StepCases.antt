@@ -5,7 +5,7 @@ use Rattle.std.proofs.lemmas.List.{length-set}
 use Rattle.std.proofs.lemmas.Bool.{cases_lt}
 use Rattle.board.specs.declared.moves.Move.{Move}
 use Rattle.board.specs.Moves.{all_moves}
-use Rattle.board.specs.Positions.{Position}
+use Rattle.board.specs.Boards.{BoardModel}
 use Rattle.outcomes.specs.Outcomes.{Task}
 use Rattle.world_model.specs.declared.limits.TheConstants.{CREDIT_DRAWN, LANE_LIMIT}
 use Rattle.world_model.specs.declared.parts.Item.{Item}
@@ -42,7 +42,7 @@ abbrev pub IsRunning : BookState → Type 0
 IsRunning book = ¬ (book.stop ≢ None)
 
 pub record ExpandsBy (moves_of : Known → List Move) (role : Role) (worker worker' : WorkerState) : Type 0 where
-  pub board : Position
+  pub board : BoardModel
   pub known : Known
   pub busy : ¬ HasNothingBelow role.task worker (limit_of worker.best)
   pub left : ¬ (worker.allowance ≡ 0)
@@ -283,7 +283,7 @@ book_steps_keep role cause it (inr (inr (inr (inr step)))) = kept it (Halts caus
 -- ---- no step of a shaped world is without an answer
 
 -- where no board is one of least cost plus sum, none is open
-none_open : (task : Task) (worker : WorkerState) → ((b : Position) (known : Known) → ¬ IsNext task worker b known) → (m : ℕ) (b : Position) (known : Known) → known.cost + task.sum b < m → ¬ IsOpen task worker b known
+none_open : (task : Task) (worker : WorkerState) → ((b : BoardModel) (known : Known) → ¬ IsNext task worker b known) → (m : ℕ) (b : BoardModel) (known : Known) → known.cost + task.sum b < m → ¬ IsOpen task worker b known
 none_open task worker none zero b known lt at = omega arith
 none_open task worker none (suc m) b known lt at =
     ⊎_elim

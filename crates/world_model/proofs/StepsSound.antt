@@ -5,7 +5,7 @@ use Rattle.std.specs.FinMap as map
 use Rattle.std.proofs.lemmas.Bool.{cases_eq, true≢false}
 use Rattle.std.proofs.lemmas.List.Elements.{Contains-push, Contains-push_cases, Contains-append_left}
 use Rattle.board.specs.declared.moves.Move.{Move}
-use Rattle.board.specs.Positions.{Position}
+use Rattle.board.specs.Boards.{BoardModel}
 use Rattle.board.specs.Moves.{Moves}
 use Rattle.search_keys.specs.SearchKeys.{search_key}
 use Rattle.world_model.specs.declared.parts.Item.{Item}
@@ -32,7 +32,7 @@ use Rattle.world_model.proofs.StepCases.{IsSame, IsKeptByBook, draw_same, announ
 
 -- ---- an expansion keeps a world sound
 
-module _ (w : WorldState) (shaped : IsShaped w) (sound : IsSound w) (i : ℕ) (worker : WorkerState) (is : IsWorker w i worker) (b : Position) (known : Known) (open_at : IsOpen w.task worker b known) where
+module _ (w : WorldState) (shaped : IsShaped w) (sound : IsSound w) (i : ℕ) (worker : WorkerState) (is : IsWorker w i worker) (b : BoardModel) (known : Known) (open_at : IsOpen w.task worker b known) where
   done : WorkerState
   done = expansion (role_of w i) worker b known
 
@@ -80,7 +80,7 @@ module _ (w : WorldState) (shaped : IsShaped w) (sound : IsSound w) (i : ℕ) (w
       (record known { expanded = true }, new.1, omega (arith, ap (λ (k : Known). k.cost) e')))
       (with_insert worker.known (search_key b) key (record known { expanded = true }))
 
-  done_lower : (j : ℕ) (x : Position) (old : Known) → Knows w j x old → (now : Known) × Knows after j x now × (now.cost ≤ old.cost)
+  done_lower : (j : ℕ) (x : BoardModel) (old : Known) → Knows w j x old → (now : Known) × Knows after j x now × (now.cost ≤ old.cost)
   unfolding after done offers marked
   done_lower j x old knows =
       ⊎_elim
@@ -126,7 +126,7 @@ module _ (w : WorldState) (shaped : IsShaped w) (sound : IsSound w) (i : ℕ) (w
   remembered = record { lower = done_lower; items = offer_kept }
 
   -- each successor is covered
-  successor_covered : (m : Move) (b' : Position) (c : ℕ) → Moves w.task.rule b m b' c → IsCovered after b' (known.cost + c)
+  successor_covered : (m : Move) (b' : BoardModel) (c : ℕ) → Moves w.task.rule b m b' c → IsCovered after b' (known.cost + c)
   unfolding after done offers marked
   successor_covered m b' c moves =
       let offer = offer_of m b' c in
@@ -140,7 +140,7 @@ module _ (w : WorldState) (shaped : IsShaped w) (sound : IsSound w) (i : ℕ) (w
       still_offered (w.owner b') offer (inr (inl (i, done, put.0, there, put.1, put.2))))
       (cases_eq (w.owner b') i)
     where
-      offer_of : Move → Position → ℕ → Item
+      offer_of : Move → BoardModel → ℕ → Item
       offer_of m b' c = record { board = b'; cost = known.cost + c; via = m }
 
   -- what is offered has its predecessor
@@ -183,9 +183,9 @@ module _ (w : WorldState) (shaped : IsShaped w) (sound : IsSound w) (i : ℕ) (w
       (λ new. let e : Some now ≡ Some (entry new.0) = sym at ∙ new.4 in inr (inr (new.0, new.1, new.2, new.3, cc)))
       (all_known (role_of w i) offers marked key)
 
-  IsNew : ℕ → Position → Known → Type 0
+  IsNew : ℕ → BoardModel → Known → Type 0
   IsNew j x now = HasPredecessor after x now.cost now.via × (w.owner x ≡ j)
-      × (now.expanded ≡ true → (x ≢ w.task.goal) × ((m : Move) (b' : Position) (c : ℕ) → Moves w.task.rule x m b' c → IsCovered after b' (now.cost + c)))
+      × (now.expanded ≡ true → (x ≢ w.task.goal) × ((m : Move) (b' : BoardModel) (c : ℕ) → Moves w.task.rule x m b' c → IsCovered after b' (now.cost + c)))
 
   new_marked : IsNew i b (record known { expanded = true })
   unfolding IsNew after
@@ -195,7 +195,7 @@ module _ (w : WorldState) (shaped : IsShaped w) (sound : IsSound w) (i : ℕ) (w
   unfolding IsNew
   new_offer offer among mine = (well_founded offer among, mine, λ closed. absurd (true≢false (sym closed)))
 
-  known_after : (j : ℕ) (x : Position) (now : Known) → Knows after j x now → Knows w j x now ⊎ IsNew j x now
+  known_after : (j : ℕ) (x : BoardModel) (now : Known) → Knows after j x now → Knows w j x now ⊎ IsNew j x now
   unfolding after
   known_after j x now knows =
       ⊎_elim
@@ -207,10 +207,10 @@ module _ (w : WorldState) (shaped : IsShaped w) (sound : IsSound w) (i : ℕ) (w
       ⊎_elim
       (λ (own_board : (search_key x ≡ search_key b) × (now ≡ record known { expanded = true })).
       let e = same_search_key w.task x b knows.board open_at.board own_board.0 in
-      inr (subst (λ (y : ℕ × Position × Known). IsNew y.0 y.1 y.2) (λ t. (sym h.0 t, sym e t, sym own_board.1 t)) new_marked))
+      inr (subst (λ (y : ℕ × BoardModel × Known). IsNew y.0 y.1 y.2) (λ t. (sym h.0 t, sym e t, sym own_board.1 t)) new_marked))
       (λ (from : (offer : Item) × Among offers offer × (w.owner offer.board ≡ i) × (search_key x ≡ search_key offer.board) × (now ≡ entry offer)).
       let e = same_search_key w.task x from.0.board knows.board (board_of from.0 from.1) from.3 in
-      inr (subst (λ (y : ℕ × Position × Known). IsNew y.0 y.1 y.2) (λ t. (sym h.0 t, sym e t, sym from.4 t)) (new_offer from.0 from.1 from.2)))
+      inr (subst (λ (y : ℕ × BoardModel × Known). IsNew y.0 y.1 y.2) (λ t. (sym h.0 t, sym e t, sym from.4 t)) (new_offer from.0 from.1 from.2)))
       new)
       (done_before (search_key x) now got))
       (λ (h : (j ≢ i) × IsWorker w j knows.worker). inl (record { worker = knows.worker; is = h.1; board = knows.board; knows = knows.knows }))

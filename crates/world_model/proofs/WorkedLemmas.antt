@@ -11,9 +11,9 @@ use Rattle.std.proofs.Math.Nat.{mod-lt}
 use Rattle.board.specs.declared.moves.Move.{Move}
 use Rattle.board.specs.Plans.{Leads}
 use Rattle.board.specs.declared.moves.Move.TheVariants.{U, L, R, D}
-use Rattle.board.specs.Grids.{Grid, IsShape, cell_count}
-use Rattle.board.specs.Positions.{Position, IsBoard, blank_of, goal_of}
-use Rattle.board.specs.CostRules.{IsCostRule, unit_rule}
+use Rattle.board.specs.Shapes.{ShapeModel, IsShape, cell_count}
+use Rattle.board.specs.Boards.{BoardModel, IsBoard, blank_of, goal_of}
+use Rattle.board.specs.Weights.{AreWeights, unit_rule}
 use Rattle.board.specs.Worked.{grid_of, two_by_two, two_by_three}
 use Rattle.pattern_index.specs.Sparse.{sparse_of}
 use Rattle.search_keys.specs.SearchKeys.{search_key}
@@ -68,7 +68,7 @@ differ_is : (ts : List ℕ) → all_differ ts ≡ true → AllPairs (λ x y. x �
 differ_is [] e = λ i j d lt j_in. absurd (omega arith)
 differ_is (t ∷ ts) e = let h = both (none_is t ts) (all_differ ts) e in AllPairs-cons (λ x y. x ≢ y) t ts (none_differs t ts h.0) (differ_is ts h.1)
 
-pub board_is : (b : Position) → IsShape b.grid → length b.tiles ≡ cell_count b.grid → all_below (cell_count b.grid) b.tiles ≡ true → all_differ b.tiles ≡ true → IsBoard b
+pub board_is : (b : BoardModel) → IsShape b.grid → length b.tiles ≡ cell_count b.grid → all_below (cell_count b.grid) b.tiles ≡ true → all_differ b.tiles ≡ true → IsBoard b
 board_is b shape count low differ = record { sides = shape; one_each = count; in_range = below_is (cell_count b.grid) b.tiles low; different = differ_is b.tiles differ }
 
 ones : (n k : ℕ) → k < n → slice_index (replicate n 1) k ≡ 1
@@ -84,7 +84,7 @@ weight_low : (n tile : ℕ) → tile < suc n → slice_index (0 ∷ replicate n 
 weight_low n zero lt = omega arith
 weight_low n (suc tile) lt = let e = ones n tile (omega arith) in omega arith
 
-pub unit_is : (grid : Grid) → IsShape grid → suc (cell_count grid - 1) ≡ cell_count grid → IsCostRule (unit_rule grid)
+pub unit_is : (grid : ShapeModel) → IsShape grid → suc (cell_count grid - 1) ≡ cell_count grid → AreWeights (unit_rule grid)
 unit_is grid shape some = record {
   sides = shape;
   one_each = ap suc (length-replicate (cell_count grid - 1) 1) ∙ some;

@@ -7,8 +7,8 @@ use Rattle.std.proofs.Math.Nat.{mod-lt}
 use Rattle.board.specs.declared.costs.TheConstants.{GREATEST_EXPANDED_COST}
 use Rattle.board.specs.declared.moves.Move.{Move}
 use Rattle.board.specs.declared.moves.Move.TheVariants.{U, L}
-use Rattle.board.specs.Positions.{Position, blank_of, goal_of}
-use Rattle.board.specs.CostRules.{CostRule}
+use Rattle.board.specs.Boards.{BoardModel, blank_of, goal_of}
+use Rattle.board.specs.Weights.{WeightsModel}
 use Rattle.board.specs.Moves.{Moves}
 use Rattle.board.specs.Plans.{Leads}
 use Rattle.board.specs.Worked.{grid_of, two_by_two}
@@ -149,14 +149,14 @@ traced_twice w same first second = (
   two_by_two 1 3 0 2,
   1,
   known_as 1 true L,
-  subst (λ (rule : CostRule). Moves rule (two_by_two 1 3 2 0) L (two_by_two 1 3 0 2) 1) (sym same) (record { cell = 2; towards = (lit< tt, refl, refl); after = refl; cost = refl }),
+  subst (λ (rule : WeightsModel). Moves rule (two_by_two 1 3 2 0) L (two_by_two 1 3 0 2) 1) (sym same) (record { cell = 2; towards = (lit< tt, refl, refl); after = refl; cost = refl }),
   first,
   refl,
   (
     two_by_two 0 3 1 2,
     1,
     known_as 2 false U,
-    subst (λ (rule : CostRule). Moves rule (two_by_two 1 3 0 2) U (two_by_two 0 3 1 2) 1) (sym same) (record { cell = 0; towards = (lit< tt, refl, refl); after = refl; cost = refl }),
+    subst (λ (rule : WeightsModel). Moves rule (two_by_two 1 3 0 2) U (two_by_two 0 3 1 2) 1) (sym same) (record { cell = 0; towards = (lit< tt, refl, refl); after = refl; cost = refl }),
     second,
     refl,
     refl,
@@ -169,7 +169,7 @@ half_board = (board_is (two_by_two 1 3 0 2) two_shape refl refl refl, refl)
 -- the world in which a job of these two moves ends, traced
 traced_at : (job : Job) (s : SmallWorld) → job.task.rule ≡ two_moves.task.rule → job.task.goal ≡ two_moves.task.goal → look_first s.workers (search_key (two_by_two 1 3 0 2)) ≡ Some (known_as 1 true L) → look_first s.workers (search_key (two_by_two 0 3 1 2)) ≡ Some (known_as 2 false U) → job.owner (two_by_two 1 3 0 2) ≡ 0 → job.owner (two_by_two 0 3 1 2) ≡ 0 → (moves : List Move) → moves ≡ L ∷ U ∷ [] → IsByLastMoves (world_of job.task job.owner s) (two_by_two 1 3 2 0) moves (two_by_two 0 3 1 2)
 traced_at job s rule goal first second own own' moves is =
-    let sides = ap (λ (b : Position). b.grid) (sym goal) in
+    let sides = ap (λ (b : BoardModel). b.grid) (sym goal) in
     let w = world_of job.task job.owner s in
     subst (λ (ms : List Move). IsByLastMoves w (two_by_two 1 3 2 0) ms (two_by_two 0 3 1 2)) (sym is)
     (traced_twice w rule

@@ -4,7 +4,7 @@ use Rattle.std.specs.declared.alloc.Global.{Global}
 use Rattle.memory.specs.declared.OutOfMemory.{OutOfMemory}
 use Rattle.board.specs.declared.costs.TheConstants.{GREATEST_COST}
 use Rattle.board.specs.declared.moves.Move.{Move}
-use Rattle.board.specs.Positions.{Position}
+use Rattle.board.specs.Boards.{BoardModel}
 use Rattle.board.specs.Plans.{Leads}
 use Rattle.board.specs.Rows.{Proves, IsLowerBound}
 use Rattle.outcomes.specs.declared.outcome.Cause.{Cause}
@@ -91,7 +91,7 @@ LimitBoundsAreSpent =
 -- what an outcome says of a bound is what the world gives, whatever rows beside it
 abbrev pub BoundsAreGiven : Type 0
 BoundsAreGiven =
-    (w : WorldState) (bound : ℕ) (best : Option (ℕ × Vec Move Global)) (cause : Cause) (rows : Option (Vec (Position × ℕ) Global))
+    (w : WorldState) (bound : ℕ) (best : Option (ℕ × Vec Move Global)) (cause : Cause) (rows : Option (Vec (BoardModel × ℕ) Global))
     → IsGiven w (Bounded bound best cause rows)
     → IsBounded w bound best cause
 
@@ -103,7 +103,7 @@ KnowsGoal w = (known : Known) × Knows w (w.owner w.task.goal) w.task.goal known
 -- for: for a plan to a goal that is known, or for rows of a bound above the start's sum.
 abbrev pub MemoryBoundsAreWanted : Type 0
 MemoryBoundsAreWanted =
-    (w : WorldState) (bound : ℕ) (best : Option (ℕ × Vec Move Global)) (want : Want) (rows : Option (Vec (Position × ℕ) Global))
+    (w : WorldState) (bound : ℕ) (best : Option (ℕ × Vec Move Global)) (want : Want) (rows : Option (Vec (BoardModel × ℕ) Global))
     → IsGiven w (Bounded bound best (ForMemory want) rows)
     → (w.book.stop ≡ Some (Memory want))
     ⊎ ((best ≡ None) × (rows ≡ None) × ((refused : OutOfMemory) × (want ≡ Refused refused)) × (KnowsGoal w ⊎ (w.task.sum w.task.start < bound)))
@@ -121,13 +121,13 @@ abbrev pub UnknownGoalsWantNoMemory : Type 0
 UnknownGoalsWantNoMemory =
     (w : WorldState)
     → ¬ KnowsGoal w
-    → ((outcome : Outcome) → ((b : Position) (cost : ℕ) → ¬ IsInFrontier w b cost) → IsGiven w outcome → outcome ≡ Unsolvable Exhausted)
-    × ((best : Option (ℕ × Vec Move Global)) (cause : Cause) (rows : Option (Vec (Position × ℕ) Global)) → IsGiven w (Bounded (w.task.sum w.task.start) best cause rows) → (listed : Vec (Position × ℕ) Global) × (rows ≡ Some listed) × (listed.items ≡ []))
+    → ((outcome : Outcome) → ((b : BoardModel) (cost : ℕ) → ¬ IsInFrontier w b cost) → IsGiven w outcome → outcome ≡ Unsolvable Exhausted)
+    × ((best : Option (ℕ × Vec Move Global)) (cause : Cause) (rows : Option (Vec (BoardModel × ℕ) Global)) → IsGiven w (Bounded (w.task.sum w.task.start) best cause rows) → (listed : Vec (BoardModel × ℕ) Global) × (rows ≡ Some listed) × (listed.items ≡ []))
 
 -- the rows of a bound prove it
 abbrev pub BoundRowsProve : Type 0
 BoundRowsProve =
-    (w : WorldState) (bound : ℕ) (best : Option (ℕ × Vec Move Global)) (cause : Cause) (rows : Vec (Position × ℕ) Global)
+    (w : WorldState) (bound : ℕ) (best : Option (ℕ × Vec Move Global)) (cause : Cause) (rows : Vec (BoardModel × ℕ) Global)
     → IsShaped w
     → IsSound w
     → IsLowerBound w.task.rule w.task.sum w.task.goal
@@ -140,8 +140,8 @@ WorldsGiveOutcomes =
     (w : WorldState)
     → IsShaped w
     → IsSound w
-    → ¬ ((moves : List Move) (listed : List (Position × ℕ))
-    → ¬ ((plan : Vec Move Global) (rows : Vec (Position × ℕ) Global) → plan.items ≡ moves → rows.items ≡ listed → (outcome : Outcome) × IsGiven w outcome))
+    → ¬ ((moves : List Move) (listed : List (BoardModel × ℕ))
+    → ¬ ((plan : Vec Move Global) (rows : Vec (BoardModel × ℕ) Global) → plan.items ≡ moves → rows.items ≡ listed → (outcome : Outcome) × IsGiven w outcome))
 
 -- In every world that a run reaches: no lane has too many packets; no packet is empty in a lane, or has too many items, there, held or
 -- unsent; each board is known to its owner alone, and each item is under way to it, at no cost above the greatest; and the goal is not
@@ -153,7 +153,7 @@ RunsStayWithinLimits =
     → IsRun (opening job via) made w
     → ((from to : ℕ) (lane : Lane) → IsLane w from to lane → (length lane ≤ LANE_LIMIT) × ((packet : Packet) → Contains lane packet → (1 ≤ length packet) × (length packet ≤ PACKET_LIMIT)))
     × ((i : ℕ) (worker : WorkerState) → IsWorker w i worker → (length worker.held ≤ PACKET_LIMIT) × ((to : ℕ) (packet : Packet) → slice_get worker.unsent to ≡ Some packet → length packet ≤ PACKET_LIMIT))
-    × ((i : ℕ) (b : Position) (known : Known) → Knows w i b known → (w.owner b ≡ i) × (known.cost ≤ GREATEST_COST) × (b ≡ w.task.goal → known.expanded ≡ false))
+    × ((i : ℕ) (b : BoardModel) (known : Known) → Knows w i b known → (w.owner b ≡ i) × (known.cost ≤ GREATEST_COST) × (b ≡ w.task.goal → known.expanded ≡ false))
     × ((to : ℕ) (item : Item) → IsUnderWay w to item → IsTaskBoard w.task item.board × (w.owner item.board ≡ to) × (item.cost ≤ GREATEST_COST))
 
 -- from each board that a sound world knows last moves lead back to the start, along a plan that costs no more than is known
@@ -162,7 +162,7 @@ LastMovesLeadBack =
     (w : WorldState)
     → IsShaped w
     → IsSound w
-    → (i : ℕ) (b : Position) (known : Known)
+    → (i : ℕ) (b : BoardModel) (known : Known)
     → Knows w i b known
     → (plan : List Move) × (cost : ℕ) × Leads w.task.rule w.task.start plan b cost × (cost ≤ known.cost) × IsByLastMoves w w.task.start plan b
 
@@ -176,7 +176,7 @@ IsWithinReach w cost plan =
 -- each plan that a world gives is such a one
 abbrev pub PlansAreWithinReach : Type 0
 PlansAreWithinReach =
-    ((w : WorldState) (cost : ℕ) (plan : Vec Move Global) (rows : Vec (Position × ℕ) Global) → IsGiven w (Optimal cost plan rows) → IsWithinReach w cost plan)
+    ((w : WorldState) (cost : ℕ) (plan : Vec Move Global) (rows : Vec (BoardModel × ℕ) Global) → IsGiven w (Optimal cost plan rows) → IsWithinReach w cost plan)
     × ((w : WorldState) (bound : ℕ) (best : ℕ × Vec Move Global) (cause : Cause) → IsBounded w bound (Some best) cause → IsWithinReach w best.0 best.1)
 
 -- In no world that a run reaches is the credit above 2^63 and what is drawn at once. So no purse is the greatest u64 there, and no packet

@@ -3,7 +3,7 @@ use Rattle.std.specs.Prelude.{◌≡◌, ◌≢◌, ◌⊎◌, ℕ, ◌+◌, ◌
 use Rattle.std.specs.declared.alloc.Global.{Global}
 use Rattle.memory.specs.declared.OutOfMemory.{OutOfMemory}
 use Rattle.board.specs.declared.moves.Move.{Move}
-use Rattle.board.specs.Positions.{Position}
+use Rattle.board.specs.Boards.{BoardModel}
 use Rattle.board.specs.Plans.{NothingBelow}
 use Rattle.board.specs.Rows.{IsLowerBound}
 use Rattle.outcomes.specs.declared.outcome.Cause.{Cause}
@@ -64,7 +64,7 @@ abbrev pub ExpandingKeepsItsWorker : Type 0
 ExpandingKeepsItsWorker =
     (n : ℕ) (role : Role) (it : Turn WorkerState Refusal)
     → IsTask role.task
-    → ((b : Position) → role.owner b < n)
+    → ((b : BoardModel) → role.owner b < n)
     → ExpandStep role it
     → IsShapedWorker n role it.before
     → IsShapedWorker n role it.after
@@ -107,7 +107,7 @@ OpeningsAreSound =
 
 -- to each board that a sound world knows a plan leads, at no more than the cost that is known: last moves can be followed back
 abbrev pub KnownBoardsAreReached : Type 0
-KnownBoardsAreReached = (w : WorldState) → IsShaped w → IsSound w → (i : ℕ) (b : Position) (known : Known) → Knows w i b known → IsLedTo w b known.cost
+KnownBoardsAreReached = (w : WorldState) → IsShaped w → IsSound w → (i : ℕ) (b : BoardModel) (known : Known) → Knows w i b known → IsLedTo w b known.cost
 
 -- and so to each that is under way
 abbrev pub ItemsAreReached : Type 0
@@ -120,7 +120,7 @@ FrontiersBound =
     → IsShaped w
     → IsSound w
     → IsLowerBound w.task.rule w.task.sum w.task.goal
-    → ((b : Position) (cost : ℕ) → IsInFrontier w b cost → n ≤ cost + w.task.sum b)
+    → ((b : BoardModel) (cost : ℕ) → IsInFrontier w b cost → n ≤ cost + w.task.sum b)
     → ((known : Known) → Knows w (w.owner w.task.goal) w.task.goal known → n ≤ known.cost)
     → NothingBelow w.task.rule w.task.start w.task.goal n
 

@@ -2,7 +2,7 @@
 use Rattle.std.specs.Prelude.{ℕ, ◌≤◌, ◌<◌, false, [], None, replicate, slice_set}
 use Rattle.std.specs.FinMap as map
 use Rattle.board.specs.declared.moves.Move.{Move}
-use Rattle.board.specs.Positions.{Position}
+use Rattle.board.specs.Boards.{BoardModel}
 use Rattle.search_keys.specs.SearchKeys.{search_key}
 use Rattle.outcomes.specs.Outcomes.{Task}
 use Rattle.world_model.specs.declared.limits.TheConstants.{WORKER_LIMIT}
@@ -15,14 +15,14 @@ pub record Job : Type 0 where
   pub task : Task
   pub limit : ℕ
   pub count : ℕ
-  pub owner : Position → ℕ
+  pub owner : BoardModel → ℕ
 
 -- the task is one, and there are workers, not too many, among whom each board has its owner
 pub record IsJob (job : Job) : Type 0 where
   pub task : IsTask job.task
   pub some : 1 ≤ job.count
   pub few : job.count ≤ WORKER_LIMIT
-  pub owners : (b : Position) → job.owner b < job.count
+  pub owners : (b : BoardModel) → job.owner b < job.count
 
 -- one of n workers, which knows nothing and has nothing
 abbrev pub idle_worker : ℕ → WorkerState

@@ -3,7 +3,7 @@ use Rattle.std.specs.Prelude.{ℕ, ◌≡◌, ◌≢◌, ◌⊎◌, ◌↔◌, �
 use Rattle.std.specs.declared.alloc.Global.{Global}
 use Rattle.memory.specs.declared.OutOfMemory.{OutOfMemory}
 use Rattle.board.specs.declared.moves.Move.{Move}
-use Rattle.board.specs.Positions.{Position}
+use Rattle.board.specs.Boards.{BoardModel}
 use Rattle.board.specs.Moves.{Moves}
 use Rattle.board.specs.Plans.{Leads}
 use Rattle.board.specs.Keys.{key_of}
@@ -35,10 +35,10 @@ abbrev pub IsBoundOf : End → ℕ → Type 0
 IsBoundOf end bound = (n : ℕ) × (floor end ≡ Some n) × (bound ≡ max (end.world.task.sum end.world.task.start) n)
 
 -- each move of the plan from one board to another is the last move with which the board that it leads to is known to its owner
-abbrev pub IsByLastMoves : WorldState → Position → List Move → Position → Type 0
+abbrev pub IsByLastMoves : WorldState → BoardModel → List Move → BoardModel → Type 0
 IsByLastMoves w b [] q = b ≡ q
 IsByLastMoves w b (m ∷ plan) q =
-    (next : Position) × (c : ℕ) × (known : Known) × Moves w.task.rule b m next c × Knows w (w.owner next) next known × (known.via ≡ m) × IsByLastMoves w next plan q
+    (next : BoardModel) × (c : ℕ) × (known : Known) × Moves w.task.rule b m next c × Knows w (w.owner next) next known × (known.via ≡ m) × IsByLastMoves w next plan q
 
 -- the plan that last moves make from the start to the goal; its cost is no more than that at which the goal is known
 pub record IsFollowedBack (end : End) (cost : ℕ) (plan : List Move) : Type 0 where
@@ -49,16 +49,16 @@ pub record IsFollowedBack (end : End) (cost : ℕ) (plan : List Move) : Type 0 w
   pub within : cost ≤ goal
 
 -- the board is known at this cost, and its cost plus sum is below k
-abbrev pub IsKnownBelow : WorldState → ℕ → Position → ℕ → Type 0
+abbrev pub IsKnownBelow : WorldState → ℕ → BoardModel → ℕ → Type 0
 IsKnownBelow w k b cost = (i : ℕ) × (known : Known) × Knows w i b known × (known.cost ≡ cost) × (cost + w.task.sum b < k)
 
 -- a row for each board that is known so, and no other row; in rising order of key
-pub record AreRowsBelow (w : WorldState) (k : ℕ) (rows : List (Position × ℕ)) : Type 0 where
+pub record AreRowsBelow (w : WorldState) (k : ℕ) (rows : List (BoardModel × ℕ)) : Type 0 where
   pub rising : AllPairs (λ row later. key_of row.0 < key_of later.0) rows
-  pub each : (b : Position) (cost : ℕ) → Contains rows (b, cost) ↔ IsKnownBelow w k b cost
+  pub each : (b : BoardModel) (cost : ℕ) → Contains rows (b, cost) ↔ IsKnownBelow w k b cost
 
 -- where the start's sum proves the cost k there is no row, else there are those below k
-abbrev pub AreRowsFor : WorldState → ℕ → List (Position × ℕ) → Type 0
+abbrev pub AreRowsFor : WorldState → ℕ → List (BoardModel × ℕ) → Type 0
 AreRowsFor w k rows = ((k ≤ w.task.sum w.task.start) × (rows ≡ [])) ⊎ ((w.task.sum w.task.start < k) × AreRowsBelow w k rows)
 
 -- The cause that a bound has, by what stopped the run. Where it is quiet, what is left costs more than a run may reach.

@@ -4,7 +4,7 @@ use Rattle.world_model.specs.declared.limits.TheConstants.{GREATEST_GRANT}
 use Rattle.world_model.specs.declared.parts.Known.{Known}
 use Rattle.world_model.specs.declared.steps.Stop.{Stop}
 use Rattle.world_model.specs.declared.steps.Stop.TheVariants.{Quiet, Limit, Memory, Start}
-use Rattle.board.specs.Positions.{Position}
+use Rattle.board.specs.Boards.{BoardModel}
 use Rattle.world_model.specs.Costs.{limit_of}
 use Rattle.world_model.specs.Workers.{WorkerState}
 use Rattle.world_model.specs.Worlds.{WorldState, IsWorker, Knows}
@@ -21,7 +21,7 @@ pub record IsAtRest (worker : WorkerState) : Type 0 where
 pub record IsQuiet (w : WorldState) : Type 0 where
   pub lanes : packet_count w ≡ 0
   pub workers : (i : ℕ) (worker : WorkerState) → IsWorker w i worker → IsAtRest worker
-  pub frontier : (b : Position) (cost : ℕ) → IsInFrontier w b cost → limit_of w.book.best ≤ cost + w.task.sum b
+  pub frontier : (b : BoardModel) (cost : ℕ) → IsInFrontier w b cost → limit_of w.book.best ≤ cost + w.task.sum b
   pub best : IsReached w w.book.best
 
 -- where the book stopped by Quiet the world is quiet

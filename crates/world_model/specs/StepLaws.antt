@@ -2,9 +2,9 @@
 use Rattle.std.specs.Prelude.{◌≡◌, ◌≢◌, ◌↔◌, ⊤, ℕ, ◌<◌, ◌+◌, true, List, [], ◌∷◌, ◌++◌, All, Contains, Option, Some, None, slice_get}
 use Rattle.memory.specs.declared.OutOfMemory.{OutOfMemory}
 use Rattle.board.specs.declared.moves.Move.{Move}
-use Rattle.board.specs.CostRules.{CostRule}
+use Rattle.board.specs.Weights.{WeightsModel}
 use Rattle.board.specs.Moves.{Moves}
-use Rattle.board.specs.Positions.{IsBoard, Position}
+use Rattle.board.specs.Boards.{IsBoard, BoardModel}
 use Rattle.world_model.specs.declared.parts.Known.{Known}
 use Rattle.world_model.specs.declared.steps.Refusal.{Refusal}
 use Rattle.world_model.specs.declared.steps.Refusal.TheVariants.{NoRoom, Memory}
@@ -100,7 +100,7 @@ MemoryIsLast =
 -- the board that an expansion closes was open, of least cost plus sum, and below the limit of the worker's best cost
 abbrev pub LeastIsExpanded : Type 0
 LeastIsExpanded =
-    (role : Role) (it : Turn WorkerState Refusal) (b : Position) (before after : Known)
+    (role : Role) (it : Turn WorkerState Refusal) (b : BoardModel) (before after : Known)
     → ExpandStep role it
     → IsOpen role.task it.before b before
     → KnowsAs it.after b after
@@ -116,7 +116,7 @@ abbrev pub MovesBackLeadBack : Type 0
 MovesBackLeadBack =
     (known : Known)
     → (known.cost ≡ 0 → move_back known ≡ None)
-    × ((rule : CostRule) (before b : Position) (c : ℕ)
+    × ((rule : WeightsModel) (before b : BoardModel) (c : ℕ)
     → 0 < known.cost
     → IsBoard before
     → Moves rule before known.via b c

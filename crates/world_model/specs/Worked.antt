@@ -4,8 +4,8 @@ use Rattle.std.specs.FinMap as map
 use Rattle.std.specs.declared.alloc.Global.{Global}
 use Rattle.board.specs.declared.moves.Move.{Move}
 use Rattle.board.specs.declared.moves.Move.TheVariants.{U, L}
-use Rattle.board.specs.Positions.{Position, blank_of, goal_of}
-use Rattle.board.specs.CostRules.{unit_rule}
+use Rattle.board.specs.Boards.{BoardModel, blank_of, goal_of}
+use Rattle.board.specs.Weights.{unit_rule}
 use Rattle.board.specs.Worked.{grid_of, two_by_two, two_by_three}
 use Rattle.outcomes.specs.declared.outcome.Cause.TheVariants.{Limit as ForLimit, Memory as ForMemory, Cut as ForCut}
 use Rattle.outcomes.specs.declared.outcome.Want.{Want}
@@ -25,11 +25,11 @@ use Rattle.world_model.specs.Openings.{Job, opening}
 use Rattle.world_model.specs.Outcomes.{IsGiven}
 
 -- a board is owned by the worker whose number is the blank's cell, modulo their count
-abbrev pub by_blank : ℕ → Position → ℕ
+abbrev pub by_blank : ℕ → BoardModel → ℕ
 by_blank count b = blank_of b % count
 
 -- plans of least moves from one board to another, without a heuristic and without a limit, by so many workers
-abbrev pub plain_job : Position → Position → ℕ → Job
+abbrev pub plain_job : BoardModel → BoardModel → ℕ → Job
 plain_job start goal count = record {
   task = record { start = start; goal = goal; rule = unit_rule start.grid; sum = λ _. 0 };
   limit = 2 ^ 64 - 1;
@@ -68,19 +68,19 @@ HasEnded w = (w.book.stop ≡ Some Quiet) × (w.book.credit ≡ 0)
 -- then the run is quiet, one move to the left is optimal, and the start is its one row
 abbrev pub PlanIsGiven : Type 0
 PlanIsGiven =
-    (plan : Vec Move Global) (rows : Vec (Position × ℕ) Global)
+    (plan : Vec Move Global) (rows : Vec (BoardModel × ℕ) Global)
     → plan.items ≡ L ∷ []
     → rows.items ≡ (two_by_two 1 0 2 3, 0) ∷ []
     → (w : WorldState) × IsRun (opening one_move U) (first_half ++ second_half) w × HasEnded w × IsGiven w (Optimal 1 plan rows)
 
 -- with the goal on its way, the run is cut with the bound 1, and the start is its one row
 abbrev pub CutIsGiven : Type 0
-CutIsGiven = (rows : Vec (Position × ℕ) Global) → rows.items ≡ (two_by_two 1 0 2 3, 0) ∷ [] → Gives one_move first_half (Bounded 1 None ForCut (Some rows))
+CutIsGiven = (rows : Vec (BoardModel × ℕ) Global) → rows.items ≡ (two_by_two 1 0 2 3, 0) ∷ [] → Gives one_move first_half (Bounded 1 None ForCut (Some rows))
 
 -- a worker with an allowance can't halt for the limit, each can for memory, and then no step on the book is accepted
 abbrev pub HaltIsGiven : Type 0
 HaltIsGiven =
-    (want : Want) (rows : Vec (Position × ℕ) Global)
+    (want : Want) (rows : Vec (BoardModel × ℕ) Global)
     → rows.items ≡ []
     → Gives one_move (ok (Grant 1) ∷ not_ok (Halt 1 Limit) AllowanceLeft ∷ ok (Halt 0 (Memory want)) ∷ not_ok (Rest 1) Stopped ∷ [])
     (Bounded 0 None (ForMemory want) (Some rows))
@@ -88,7 +88,7 @@ HaltIsGiven =
 -- with a limit of one expansion the worker that made it halts the run, with the start as its one row
 abbrev pub LimitIsGiven : Type 0
 LimitIsGiven =
-    (rows : Vec (Position × ℕ) Global)
+    (rows : Vec (BoardModel × ℕ) Global)
     → rows.items ≡ (two_by_two 1 0 2 3, 0) ∷ []
     → Gives (record one_move { limit = 1 })
     (ok (Grant 1) ∷ not_ok (Halt 1 Limit) AllowanceLeft ∷ ok (Expand 1) ∷ not_ok (Expand 1) NoAllowance ∷ not_ok (Grant 1) NoAllowance ∷ ok (Halt 1 Limit) ∷ [])
@@ -97,7 +97,7 @@ LimitIsGiven =
 -- what is refused in the opening world, whose bound needs no rows
 abbrev pub RefusalsAreGiven : Type 0
 RefusalsAreGiven =
-    (rows : Vec (Position × ℕ) Global)
+    (rows : Vec (BoardModel × ℕ) Global)
     → rows.items ≡ []
     → Gives one_move
     (not_ok (Settle 0) NothingThere
@@ -178,6 +178,6 @@ other_way =
 -- all these steps are accepted, and the bound is then 2, with the start and its two successors as rows
 abbrev pub BoardIsExpandedAgain : Type 0
 BoardIsExpandedAgain =
-    (rows : Vec (Position × ℕ) Global)
+    (rows : Vec (BoardModel × ℕ) Global)
     → rows.items ≡ (two_by_three (0 ∷ 1 ∷ 2 ∷ 3 ∷ 4 ∷ 5 ∷ []), 0) ∷ (two_by_three (1 ∷ 0 ∷ 2 ∷ 3 ∷ 4 ∷ 5 ∷ []), 1) ∷ (two_by_three (3 ∷ 1 ∷ 2 ∷ 0 ∷ 4 ∷ 5 ∷ []), 1) ∷ []
     → Gives far_goal (each_of ok (one_way ++ other_way)) (Bounded 2 None ForCut (Some rows))

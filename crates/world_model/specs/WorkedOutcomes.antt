@@ -6,7 +6,7 @@ use Rattle.memory.specs.declared.OutOfMemory.{OutOfMemory}
 use Rattle.board.specs.declared.costs.TheConstants.{GREATEST_EXPANDED_COST}
 use Rattle.board.specs.declared.moves.Move.{Move}
 use Rattle.board.specs.declared.moves.Move.TheVariants.{U, L, D}
-use Rattle.board.specs.Positions.{Position, goal_of}
+use Rattle.board.specs.Boards.{BoardModel, goal_of}
 use Rattle.board.specs.Keys.{key_of}
 use Rattle.board.specs.Worked.{grid_of, two_by_two}
 use Rattle.search_keys.specs.SearchKeys.{search_key}
@@ -79,12 +79,12 @@ MemoryIsGiven =
 
 -- of the same start, a run that was halted because a thread could not be started
 abbrev pub StartIsGiven : Type 0
-StartIsGiven = (rows : Vec (Position × ℕ) Global) → rows.items ≡ [] → Gives one_move (ok (Halt 0 Start) ∷ []) (Bounded 0 None ForStart (Some rows))
+StartIsGiven = (rows : Vec (BoardModel × ℕ) Global) → rows.items ≡ [] → Gives one_move (ok (Halt 0 Start) ∷ []) (Bounded 0 None ForStart (Some rows))
 
 -- the start is the goal: nothing is expanded, and the empty plan is optimal, without rows
 abbrev pub EmptyPlanIsGiven : Type 0
 EmptyPlanIsGiven =
-    (plan : Vec Move Global) (rows : Vec (Position × ℕ) Global)
+    (plan : Vec Move Global) (rows : Vec (BoardModel × ℕ) Global)
     → plan.items ≡ []
     → rows.items ≡ []
     → Gives (record (plain_job (goal_of (grid_of 2 2)) (goal_of (grid_of 2 2)) 1) { limit = 0 })
@@ -102,7 +102,7 @@ two_expansions = Grant 0 ∷ Expand 0 ∷ Expand 0 ∷ []
 -- so the plan at 2 is above the bound 1, which the start proves
 abbrev pub PlanAboveIsGiven : Type 0
 PlanAboveIsGiven =
-    (plan : Vec Move Global) (rows : Vec (Position × ℕ) Global)
+    (plan : Vec Move Global) (rows : Vec (BoardModel × ℕ) Global)
     → plan.items ≡ L ∷ U ∷ []
     → rows.items ≡ (two_by_two 1 3 2 0, 0) ∷ []
     → Gives two_moves (each_of ok two_expansions) (Bounded 1 (Some (2, plan)) ForCut (Some rows))
@@ -113,7 +113,7 @@ known_start = record two_moves { task = record two_moves.task { sum = λ b. if k
 
 abbrev pub NoRowsAreGiven : Type 0
 NoRowsAreGiven =
-    (plan : Vec Move Global) (rows : Vec (Position × ℕ) Global)
+    (plan : Vec Move Global) (rows : Vec (BoardModel × ℕ) Global)
     → plan.items ≡ L ∷ U ∷ []
     → rows.items ≡ []
     → Gives known_start (each_of ok two_expansions) (Optimal 2 plan rows)
@@ -121,7 +121,7 @@ NoRowsAreGiven =
 -- with one expansion more the plan is least, and its rows are the three boards below 2, in rising order of key
 abbrev pub ThreeRowsAreGiven : Type 0
 ThreeRowsAreGiven =
-    (plan : Vec Move Global) (rows : Vec (Position × ℕ) Global)
+    (plan : Vec Move Global) (rows : Vec (BoardModel × ℕ) Global)
     → plan.items ≡ L ∷ U ∷ []
     → rows.items ≡ (two_by_two 1 0 2 3, 1) ∷ (two_by_two 1 3 0 2, 1) ∷ (two_by_two 1 3 2 0, 0) ∷ []
     → Gives two_moves (each_of ok (two_expansions ++ Expand 0 ∷ [])) (Optimal 2 plan rows)
@@ -142,7 +142,7 @@ far_start sum =
 -- where it is above the greatest cost at which a board is expanded, the run is quiet at once, and the bound is for the cost
 abbrev pub CostIsGiven : Type 0
 CostIsGiven =
-    (rows : Vec (Position × ℕ) Global)
+    (rows : Vec (BoardModel × ℕ) Global)
     → rows.items ≡ []
     → Gives (far_start (GREATEST_EXPANDED_COST + 1)) (not_ok (Grant 0) NothingBelowLimit ∷ ok (Rest 0) ∷ []) (Bounded (GREATEST_EXPANDED_COST + 1) None ForCost (Some rows))
     × Gives (far_start GREATEST_EXPANDED_COST) (not_ok (Rest 0) NotIdle ∷ ok (Grant 0) ∷ []) (Bounded GREATEST_EXPANDED_COST None ForCut (Some rows))

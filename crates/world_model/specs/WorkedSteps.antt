@@ -3,7 +3,7 @@
 use Rattle.std.specs.Prelude.{ℕ, ◌+◌, ◌-◌, ◌^◌, List, [], ◌∷◌, ◌++◌, true, false, Option, None, Some, replicate}
 use Rattle.std.specs.FinMap as map
 use Rattle.board.specs.declared.moves.Move.TheVariants.{U, L, R, D}
-use Rattle.board.specs.Positions.{Position, goal_of}
+use Rattle.board.specs.Boards.{BoardModel, goal_of}
 use Rattle.board.specs.Worked.{grid_of, two_by_two, two_by_three}
 use Rattle.search_keys.specs.SearchKeys.{search_key}
 use Rattle.world_model.specs.declared.limits.TheConstants.{PACKET_LIMIT, LANE_LIMIT, GREATEST_GRANT}
@@ -94,7 +94,7 @@ FullCreditsRefuse =
     × DrawStep (refused (beside (with_purse 0) (book_with (2 ^ 63 + 1) 0 (Some Quiet))) Stopped)
 
 -- the start of the job of one move
-abbrev pub start_board : Position
+abbrev pub start_board : BoardModel
 start_board = two_by_two 1 0 2 3
 
 -- the item that is held last is settled first

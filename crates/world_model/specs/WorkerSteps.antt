@@ -3,7 +3,7 @@ use Rattle.std.specs.Prelude.{◌≡◌, ◌≢◌, ◌⊎◌, ℕ, ◌+◌, ◌
 use Rattle.memory.specs.declared.OutOfMemory.{OutOfMemory}
 use Rattle.board.specs.declared.moves.Move.{Move}
 use Rattle.board.specs.Moves.{all_moves}
-use Rattle.board.specs.Positions.{Position}
+use Rattle.board.specs.Boards.{BoardModel}
 use Rattle.world_model.specs.declared.limits.TheConstants.{PACKET_LIMIT, LANE_LIMIT}
 use Rattle.world_model.specs.declared.parts.Item.{Item}
 use Rattle.world_model.specs.declared.parts.Known.{Known}
@@ -34,7 +34,7 @@ ExpandStepBy moves_of role it =
     let worker = it.before in
     Unless it (HasNothingBelow role.task worker (limit_of worker.best)) NothingBelowLimit (
     Unless it (worker.allowance ≡ 0) NoAllowance (
-    (b : Position) × (known : Known) × IsNext role.task worker b known
+    (b : BoardModel) × (known : Known) × IsNext role.task worker b known
     × Unless it (IsOverfull (expansion_by (moves_of known) role worker b known)) NoRoom (
     WithMemory it (Becomes it (expansion_by (moves_of known) role worker b known)))))
 

@@ -1,7 +1,7 @@
 //! Boards that are solved.
 
 ghost use Rattle.std.specs.Prelude.{◌≡◌, [], IfSome};
-ghost use Rattle.board.specs.Positions.{goal_of};
+ghost use Rattle.board.specs.Boards.{goal_of};
 ghost use Rattle.batch_runs.specs.Setups.{Guides};
 ghost use Rattle.lower_bound.specs.Tables.{ArePotentials};
 

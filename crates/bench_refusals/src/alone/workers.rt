@@ -2,7 +2,7 @@
 //! more it has to do the same as where nothing is refused.
 
 ghost use Rattle.std.specs.Prelude.{◌≡◌, IfSome};
-ghost use Rattle.test_worlds.specs.Jobs.{IsFit, IsLed};
+ghost use Rattle.test_worlds.specs.Jobs.{IsJobFit, IsGuidedToGoal};
 
 use super::Answer;
 use arrayvec::ArrayVec;
@@ -89,7 +89,7 @@ fn sum_of_items(items: &[Item]) -> u128 {
 
 // The search from START at face cost, led by no table. It takes no memory.
 fn job(alloc: Global) -> Option<Job>
-    ensures { IfSome result (λ job. IsFit job) }
+    ensures { IfSome result (λ job. IsJobFit job) }
 {
     let shape = Shape::new(4, 4).unwrap();
     let goal = Board::goal(shape);
@@ -128,9 +128,9 @@ fn knows(worker: &Worker<Plain>, job: &Job, row: (&[u8], u32, Move, bool)) -> bo
 
 // Meets a board, once more where memory is refused.
 fn meet_it(alloc: Global, job: &Job, worker: &mut Worker<Plain>, item: &Item) -> Answer
-    requires job { IsFit job.now }
-    requires led { IsLed job.now worker.old.lists }
-    ensures led { IsLed job.now worker.new.lists }
+    requires job { IsJobFit job.now }
+    requires led { IsGuidedToGoal job.now worker.old.lists }
+    ensures led { IsGuidedToGoal job.now worker.new.lists }
 {
     let before = standing_of(worker);
     match meet(alloc, job, worker, item) {
@@ -149,9 +149,9 @@ fn meet_it(alloc: Global, job: &Job, worker: &mut Worker<Plain>, item: &Item) ->
 
 // Settles an item, once more where memory is refused.
 fn settle_it(alloc: Global, job: &Job, worker: &mut Worker<Plain>) -> Answer
-    requires job { IsFit job.now }
-    requires led { IsLed job.now worker.old.lists }
-    ensures led { IsLed job.now worker.new.lists }
+    requires job { IsJobFit job.now }
+    requires led { IsGuidedToGoal job.now worker.old.lists }
+    ensures led { IsGuidedToGoal job.now worker.new.lists }
 {
     let before = standing_of(worker);
     match settle(alloc, job, &ByBlank, ME, worker) {
@@ -170,9 +170,9 @@ fn settle_it(alloc: Global, job: &Job, worker: &mut Worker<Plain>) -> Answer
 
 // Expands a board, once more where memory is refused.
 fn expand_it(alloc: Global, job: &Job, worker: &mut Worker<Plain>) -> Answer
-    requires job { IsFit job.now }
-    requires led { IsLed job.now worker.old.lists }
-    ensures led { IsLed job.now worker.new.lists }
+    requires job { IsJobFit job.now }
+    requires led { IsGuidedToGoal job.now worker.old.lists }
+    ensures led { IsGuidedToGoal job.now worker.new.lists }
 {
     let before = standing_of(worker);
     match expand(alloc, job, &ByBlank, ME, worker) {
@@ -220,9 +220,9 @@ pub fn meet_board(alloc: Global) -> Answer {
 
 // Meets the start at a cost.
 fn meet_start(alloc: Global, job: &Job, worker: &mut Worker<Plain>, cost: u32) -> Answer
-    requires job { IsFit job.now }
-    requires led { IsLed job.now worker.old.lists }
-    ensures led { IsLed job.now worker.new.lists }
+    requires job { IsJobFit job.now }
+    requires led { IsGuidedToGoal job.now worker.old.lists }
+    ensures led { IsGuidedToGoal job.now worker.new.lists }
 {
     match item(job, &START, cost) {
         Some(start) => meet_it(alloc, job, worker, &start),
@@ -273,8 +273,8 @@ fn settle_two(
     worker: &mut Worker<Plain>,
     purse: &mut Purse<Plain>,
 ) -> Answer
-    requires job { IsFit job.now }
-    requires led { IsLed job.now worker.old.lists }
+    requires job { IsJobFit job.now }
+    requires led { IsGuidedToGoal job.now worker.old.lists }
 {
     let Some(()) = hold_two(alloc, job, worker, purse) else {
         return Answer::Refused;
@@ -328,8 +328,8 @@ fn expand_granted(
     worker: &mut Worker<Plain>,
     book: &mut Book<Plain>,
 ) -> Answer
-    requires job { IsFit job.now }
-    requires led { IsLed job.now worker.old.lists }
+    requires job { IsJobFit job.now }
+    requires led { IsGuidedToGoal job.now worker.old.lists }
 {
     if worker.allowance() != 0 || worker.expansions() != 0 || worker.grant(book).is_err() {
         return Answer::Wrong("not granted");
@@ -340,9 +340,9 @@ fn expand_granted(
 // Meets the start at no cost, and others at a greater one, until three places are left in the first
 // page of the table. A board that is refused memory is met once more.
 fn fill_table(alloc: Global, job: &Job, worker: &mut Worker<Plain>) -> Answer
-    requires job { IsFit job.now }
-    requires led { IsLed job.now worker.old.lists }
-    ensures led { IsLed job.now worker.new.lists }
+    requires job { IsJobFit job.now }
+    requires led { IsGuidedToGoal job.now worker.old.lists }
+    ensures led { IsGuidedToGoal job.now worker.new.lists }
 {
     let mut answer = Answer::Whole;
     'boards: for number in 0..PAGE_LENGTH - 3 {

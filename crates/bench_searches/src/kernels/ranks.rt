@@ -2,7 +2,7 @@
 
 ghost use Rattle.std.specs.Prelude.{◌≡◌, ◌≤◌, ◌*◌, length, All};
 ghost use Rattle.pattern_index.specs.Views.{IsView};
-ghost use Rattle.pattern_index.specs.Selections.{IsSelection};
+ghost use Rattle.pattern_index.specs.Groups.{IsGroup};
 
 use crate::kernels::steps::next_state;
 use pattern_index::{Group, MAX_SIZE, View};

@@ -1,8 +1,8 @@
 //! Tables, and what they come to.
 
 ghost use Rattle.std.specs.Prelude.{◌≡◌, length, IfSome};
-ghost use Rattle.pattern_index.specs.Selections.{size_of};
-ghost use Rattle.pattern_graph.specs.Frames.{Fits};
+ghost use Rattle.pattern_index.specs.Groups.{size_of};
+ghost use Rattle.pattern_graph.specs.Frames.{FitsGroup};
 
 use crate::kernels::steps::next_state;
 use crate::kernels::sums::shuffled;
@@ -135,7 +135,7 @@ pub enum Made {
 impl Made {
     /// The table of a group, or None where the task makes none, or finds no memory.
     pub fn new(alloc: Global, frame: &Frame, group: &Group, task: Task) -> Option<Self>
-        requires { Fits frame.now group.now }
+        requires { FitsGroup frame.now group.now }
     {
         let shape = group.shape();
         let goal = task.goal(shape)?;
@@ -159,7 +159,7 @@ impl Made {
 
 /// The frame of a group: the one that is given, if it fits, else a new one; None without memory.
 pub fn frame_for(alloc: Global, last: Option<Frame>, group: &Group) -> Option<Frame>
-    ensures { IfSome result (λ frame. Fits frame group.now) }
+    ensures { IfSome result (λ frame. FitsGroup frame group.now) }
 {
     if let Some(frame) = last {
         if frame.fits(group) {

@@ -1,7 +1,7 @@
 //! A worker whose steps are tried.
 
 ghost use Rattle.std.specs.Prelude.{IfSome};
-ghost use Rattle.test_worlds.specs.Jobs.{IsFit};
+ghost use Rattle.test_worlds.specs.Jobs.{IsJobFit};
 
 use crate::steps::scenes::Scene;
 use board::{Board, Shape, Weights};
@@ -25,18 +25,18 @@ pub struct Trial<C: Tokens> {
 
 impl<C: Tokens> Model for Trial<C> {
     ghost use Rattle.std.specs.Prelude.{⊤};
-    ghost use Rattle.test_worlds.specs.Jobs.{IsFit, IsLed};
+    ghost use Rattle.test_worlds.specs.Jobs.{IsJobFit, IsGuidedToGoal};
 
     ghost Value = { ⊤ };
 
     ghost view = { λ _. tt };
 
-    ghost invariant = { λ t. IsFit t.job × IsLed t.job t.worker.lists };
+    ghost invariant = { λ t. IsJobFit t.job × IsGuidedToGoal t.job t.worker.lists };
 }
 
 // The search of a scene: at unit cost for Korf's goal, led by the tables of its groups.
 fn job_of(alloc: Global, scene: &Scene) -> Option<Job>
-    ensures { IfSome result (λ job. IsFit job) }
+    ensures { IfSome result (λ job. IsJobFit job) }
 {
     let shape = Shape::new(scene.side, scene.side).ok()?;
     let goal = Board::goal(shape);

@@ -1,5 +1,5 @@
 use Rattle.std.proofs.Common.{◌∙◌, ap, length, subst, sym}
-use Rattle.board.specs.Positions.{IsBoard}
+use Rattle.board.specs.Boards.{IsBoard}
 use Rattle.owners.specs.declared.spread.ByBlank.{ByBlank}
 use Rattle.worker_core.specs.Contexts.{ContextModel, task_from}
 use Rattle.worker_core.specs.Roles.{guide_of}

@@ -1,9 +1,9 @@
 use Rattle.std.proofs.Common.{ℕ, List, [], ◌∷◌, refl, lit<}
-use Rattle.board.specs.Positions.{Position}
+use Rattle.board.specs.Boards.{BoardModel}
 use Rattle.board.specs.Worked.{grid_of}
 use Rattle.board.proofs.worked.two_left.Goals as goal
 
-three_by_three : List ℕ → Position
+three_by_three : List ℕ → BoardModel
 three_by_three tiles = record { grid = grid_of 3 3; tiles = tiles }
 
 pub returns : goal.returns

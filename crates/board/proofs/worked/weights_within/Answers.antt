@@ -1,5 +1,5 @@
 use Rattle.std.proofs.Common.{ℕ, zero, suc, ◌<◌, ◌≤◌, [], ◌∷◌, refl, arith, lit≤}
-use Rattle.board.specs.CostRules.{IsCostRule, listed_rule, weight_of}
+use Rattle.board.specs.Weights.{AreWeights, listed_rule, weight_of}
 use Rattle.board.specs.Worked.{grid_of}
 use Rattle.board.proofs.worked.weights_within.Goals as goal
 
@@ -17,7 +17,7 @@ high (suc (suc zero)) few = lit≤ tt
 high (suc (suc (suc zero))) few = lit≤ tt
 high (suc (suc (suc (suc tile)))) few = absurd (omega (arith, few))
 
-within : IsCostRule (listed_rule (grid_of 2 2) (255 ∷ 1 ∷ 1 ∷ []))
+within : AreWeights (listed_rule (grid_of 2 2) (255 ∷ 1 ∷ 1 ∷ []))
 within = record {
   sides = record { rows_low = lit≤ tt; rows_high = lit≤ tt; cols_low = lit≤ tt; cols_high = lit≤ tt };
   one_each = refl;

@@ -1,5 +1,5 @@
 use Rattle.std.proofs.Common.{sym, subst}
-use Rattle.board.specs.Positions.{IsBoard}
+use Rattle.board.specs.Boards.{IsBoard}
 use Rattle.board_lists.proofs.DrawLemmas.{shuffled_front}
 use Rattle.board_lists.proofs.draws.shuffle_tiles.Goals as goal
 

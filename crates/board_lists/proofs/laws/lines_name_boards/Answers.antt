@@ -10,10 +10,10 @@ use Rattle.std.proofs.lemmas.Str.{IsUtf8-from_ascii, IsAscii-append}
 use Rattle.std.proofs.lemmas.Str.Parse.{digit_from_value}
 use Rattle.std.proofs.lemmas.List.Elements.{All-from_recursion, recursion_from_All, All-weaker, All-cons}
 use Rattle.std.proofs.lemmas.List.Splits.{slice_split_at, slice_split_none}
-use Rattle.board.specs.Positions.{Position, IsBoard}
+use Rattle.board.specs.Boards.{BoardModel, IsBoard}
 use Rattle.board.proofs.KeyLemmas.{tiles_small}
 use Rattle.batch_lines.specs.Lines.{is_blank}
-use Rattle.batch_lines.specs.Words.{words_of, Spells, SpellEach, IsEntry}
+use Rattle.batch_lines.specs.Words.{words_of, SpellsNumber, SpellEach, IsEntry}
 use Rattle.board_lists.specs.Lines.{id_text, tile_text, entry_text}
 use Rattle.board_lists.proofs.laws.lines_name_boards.Goals as goal
 
@@ -29,7 +29,7 @@ digits_all (d ∷ ds) digits = (digit_from_value d digits.0, digits_all ds digit
 decimal_digits : (n : ℕ) → n < 2 ^ 64 → All IsAsciiDigit (decimal n)
 decimal_digits n small = All-from_recursion IsAsciiDigit (decimal n) (digits_all (decimal n) (decimal_is_IsNumeral n small).0.1)
 
-spelled : (n : ℕ) → n < 2 ^ 64 → Spells (decimal n) n
+spelled : (n : ℕ) → n < 2 ^ 64 → SpellsNumber (decimal n) n
 spelled n small = record {
   some = λ none. omega (arith, ap length none, decimal_nonempty n small);
   digits = decimal_digits n small;
@@ -83,7 +83,7 @@ tiles_ascii : (tiles : List ℕ) → AllByRecursion (λ t. t < 32) tiles → IsA
 tiles_ascii [] low = λ i. omega arith
 tiles_ascii (t ∷ tiles) low = ascii_cons 32 (decimal t ++ flat_map tile_text tiles) (omega arith) (IsAscii-append (decimal t) (flat_map tile_text tiles) (IsAscii-decimal t (omega (arith, low.0))) (tiles_ascii tiles low.1))
 
-entry_is : (n : ℕ) (b : Position) → n < 2 ^ 64 → IsBoard b → IsEntry b.grid (entry_text n b) (id_text n) b
+entry_is : (n : ℕ) (b : BoardModel) → n < 2 ^ 64 → IsBoard b → IsEntry b.grid (entry_text n b) (id_text n) b
 entry_is n b small board =
     let low = recursion_from_All (λ t. t < 32) b.tiles (tiles_small b board) in
     let words = word_and_tiles (id_text n) b.tiles (id_is_word n small) low in

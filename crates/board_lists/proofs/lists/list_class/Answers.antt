@@ -1,6 +1,6 @@
 use Rattle.std.proofs.Common.{◌≡◌, ◌∙◌, ◌<◌, sym, ap, arith, ℕ}
 use Rattle.std.proofs.lemmas.Bool.{false≢true}
-use Rattle.board.specs.Grids.{Grid, cell_count}
+use Rattle.board.specs.Shapes.{ShapeModel, cell_count}
 use Rattle.byte_streams.specs.Streams.{change}
 use Rattle.pattern_index.specs.Ranks.{ways}
 use Rattle.board_lists.specs.Classes.{board_at}
@@ -22,7 +22,7 @@ pub returns-in_default-clause-lists : goal.returns-in_default-clause-lists
 returns-in_default-clause-lists g c =
     let state = g.K.Sink.state in
     let grid = c.shape-shape.ensures.value in
-    let here : c.board_at-board.result ≡ board_at c.args.goal.now.grid c.places.place = c.board_at-board.ensures ∙ ap (λ (s : Grid). board_at s c.places.place) grid in
+    let here : c.board_at-board.result ≡ board_at c.args.goal.now.grid c.places.place = c.board_at-board.ensures ∙ ap (λ (s : ShapeModel). board_at s c.places.place) grid in
     let orders : c.count_orders-place-end.result ≡ ways (cell_count c.args.goal.now.grid) (cell_count c.args.goal.now.grid) = c.count_orders-place-end.ensures.orders ∙ ap (λ (n : ℕ). ways n n) (c.cells.ensures.value ∙ ap cell_count grid) in
     let low : c.places.place < ways (cell_count c.args.goal.now.grid) (cell_count c.args.goal.now.grid) = omega (arith, orders) in
     ClassIsListed-failed c.args.goal.now (state c.args.sink.now) (state c.places.sink) (state c.put_line.new.sink) c.places.place c.places.count c.board_at-board.result c.shape-shape.ensures.board c.places.invariant low here (c.same_class.ensures.0 c.if-same_class.true) (rw c.in_default.is at c.put_line.ensures)
@@ -31,7 +31,7 @@ pub places-preserved : goal.places-preserved
 places-preserved g c =
     let state = g.K.Sink.state in
     let grid = c.shape-shape.ensures.value in
-    let here : c.board_at-board.result ≡ board_at c.args.goal.now.grid c.places.place = c.board_at-board.ensures ∙ ap (λ (s : Grid). board_at s c.places.place) grid in
+    let here : c.board_at-board.result ≡ board_at c.args.goal.now.grid c.places.place = c.board_at-board.ensures ∙ ap (λ (s : ShapeModel). board_at s c.places.place) grid in
     let orders : c.count_orders-place-end.result ≡ ways (cell_count c.args.goal.now.grid) (cell_count c.args.goal.now.grid) = c.count_orders-place-end.ensures.orders ∙ ap (λ (n : ℕ). ways n n) (c.cells.ensures.value ∙ ap cell_count grid) in
     let low : c.places.place < ways (cell_count c.args.goal.now.grid) (cell_count c.args.goal.now.grid) = omega (arith, orders) in
     elim c.if-same_class.branch [

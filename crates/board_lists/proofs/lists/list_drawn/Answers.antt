@@ -1,7 +1,7 @@
 use Rattle.std.proofs.Common.{◌≡◌, subst, arith, ℕ}
 use Rattle.byte_streams.specs.Streams.{change}
 use Rattle.board_lists.specs.Classes.{IsOfClass}
-use Rattle.board_lists.specs.Classes.{AreEach}
+use Rattle.board_lists.specs.Classes.{AreBoardsWith}
 use Rattle.board_lists.specs.Lists.{ListsBoards}
 use Rattle.board_lists.proofs.ListLemmas.{EachIsListed-none, EachIsListed-more, EachIsListed-failed, EachIsListed-flushed}
 use Rattle.board_lists.proofs.lists.list_drawn.Goals as goal
@@ -23,5 +23,5 @@ pub returns-clause-lists : goal.returns-clause-lists
 returns-clause-lists g c =
     let state = g.K.Sink.state in
     let all : c.boards.place ≡ c.args.count = omega arith in
-    subst (λ (n : ℕ). ListsBoards (AreEach (IsOfClass c.args.goal.now) n) (change state c.args.sink.now c.flush.new.self) c.flush.result) all
+    subst (λ (n : ℕ). ListsBoards (AreBoardsWith (IsOfClass c.args.goal.now) n) (change state c.args.sink.now c.flush.new.self) c.flush.result) all
     (EachIsListed-flushed (IsOfClass c.args.goal.now) (state c.args.sink.now) (state c.boards.sink) (state c.flush.new.self) c.boards.place c.flush.result c.boards.invariant c.flush.ensures.flushes)

@@ -1,7 +1,7 @@
 use Rattle.std.proofs.Common.{◌≡◌, subst, arith, ℕ}
 use Rattle.byte_streams.specs.Streams.{change}
 use Rattle.board_lists.specs.Walks.{IsWalked}
-use Rattle.board_lists.specs.Classes.{AreEach}
+use Rattle.board_lists.specs.Classes.{AreBoardsWith}
 use Rattle.board_lists.specs.Lists.{ListsBoards}
 use Rattle.board_lists.proofs.ListLemmas.{EachIsListed-none, EachIsListed-more, EachIsListed-failed, EachIsListed-flushed}
 use Rattle.board_lists.proofs.WalkLemmas.{walk_keeps_class}
@@ -26,5 +26,5 @@ pub returns-clause-lists : goal.returns-clause-lists
 returns-clause-lists g c =
     let state = g.K.Sink.state in
     let all : c.boards.place ≡ c.args.count = omega arith in
-    subst (λ (n : ℕ). ListsBoards (AreEach (IsWalked c.args.goal.now c.args.moves) n) (change state c.args.sink.now c.flush.new.self) c.flush.result) all
+    subst (λ (n : ℕ). ListsBoards (AreBoardsWith (IsWalked c.args.goal.now c.args.moves) n) (change state c.args.sink.now c.flush.new.self) c.flush.result) all
     (EachIsListed-flushed (IsWalked c.args.goal.now c.args.moves) (state c.args.sink.now) (state c.boards.sink) (state c.flush.new.self) c.boards.place c.flush.result c.boards.invariant c.flush.ensures.flushes)

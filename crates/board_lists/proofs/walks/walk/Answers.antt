@@ -1,5 +1,5 @@
 use Rattle.std.proofs.Common.{◌≡◌, ◌∙◌, ℕ, sym, ap, subst, arith}
-use Rattle.board.specs.CostRules.{CostRule, unit_rule}
+use Rattle.board.specs.Weights.{WeightsModel, unit_rule}
 use Rattle.board.specs.Moves.{Moves}
 use Rattle.board_lists.specs.Walks.{IsWalkedTo}
 use Rattle.board_lists.proofs.WalkLemmas.{IsUnderWay-none, IsUnderWay-more}
@@ -9,12 +9,12 @@ pub moves-init : goal.moves-init
 moves-init c = (IsUnderWay-none c.args.goal.now, c.unit-weights.ensures ∙ ap unit_rule c.shape.ensures.value)
 
 pub step-requires : goal.step-requires
-step-requires c = ap (λ (r : CostRule). r.grid) c.moves.invariant.1 ∙ sym c.moves.invariant.0.grid
+step-requires c = ap (λ (r : WeightsModel). r.grid) c.moves.invariant.1 ∙ sym c.moves.invariant.0.grid
 
 pub moves-preserved : goal.moves-preserved
 moves-preserved c =
     let made = (c.step.ensures.moves c.unwrap-board.result.0 c.unwrap-board.result.1).0 c.unwrap-board.ensures in
-    let by_rule = subst (λ (r : CostRule). Moves r c.moves.board c.draw_move-direction.result c.unwrap-board.result.0 c.unwrap-board.result.1) c.moves.invariant.1 made in
+    let by_rule = subst (λ (r : WeightsModel). Moves r c.moves.board c.draw_move-direction.result c.unwrap-board.result.0 c.unwrap-board.result.1) c.moves.invariant.1 made in
     (IsUnderWay-more c.args.goal.now c.moves.counter c.moves.board c.moves.last c.draw_move-direction.result c.unwrap-board.result.0 c.unwrap-board.result.1 c.moves.invariant.0 c.draw_move-direction.ensures by_rule, c.moves.invariant.1)
 
 pub returns-clause-walked : goal.returns-clause-walked

@@ -1,5 +1,5 @@
 use Rattle.std.proofs.Common.{◌≡◌}
-use Rattle.board.specs.CostRules.{unit_rule}
+use Rattle.board.specs.Weights.{unit_rule}
 use Rattle.board_lists.proofs.WalkLemmas.{IsUnderWay}
 use Rattle.board_lists.proofs.walks.walk.Given as goal
 

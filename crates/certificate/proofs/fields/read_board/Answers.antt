@@ -2,7 +2,7 @@ use Rattle.std.proofs.Common.{arith, subst, ◌∙◌}
 use Rattle.std.specs.Prelude.{ℕ}
 use Rattle.std.proofs.lemmas.Bool.{false≢true}
 use Rattle.byte_streams.specs.Streams.{change}
-use Rattle.board.specs.Grids.{cell_count}
+use Rattle.board.specs.Shapes.{cell_count}
 use Rattle.certificate.specs.Sources.{EndsEarly}
 use Rattle.certificate.specs.Readings.{board, board_in}
 use Rattle.certificate.specs.Fields.{SpellsBoard}

@@ -1,7 +1,7 @@
 use Rattle.std.proofs.Common.{◌≡◌, ◌-◌, arith, ap, sym, subst, ◌∙◌}
 use Rattle.std.specs.Prelude.{ℕ, length}
 use Rattle.byte_streams.specs.Streams.{change}
-use Rattle.board.specs.Grids.{cell_count}
+use Rattle.board.specs.Shapes.{cell_count}
 use Rattle.certificate.specs.Sources.{EndsEarly}
 use Rattle.certificate.specs.Readings.{costs_of, weights_in}
 use Rattle.certificate.specs.Fields.{SpellsCosts}

@@ -1,10 +1,10 @@
 use Rattle.std.proofs.Common.{subst}
 use Rattle.byte_streams.specs.Streams.{change}
-use Rattle.board.specs.Grids.{Grid}
+use Rattle.board.specs.Shapes.{ShapeModel}
 use Rattle.certificate.specs.Certificates.{cost_of, plan_of}
 use Rattle.certificate.specs.Fields.{SpellsBoard}
 use Rattle.certificate.specs.Readings.{board, body}
-use Rattle.certificate.specs.Sources.{Refuses, Finds}
+use Rattle.certificate.specs.Sources.{RefusesInput, Finds}
 use Rattle.certificate.proofs.ReaderLemmas.{passed}
 use Rattle.certificate.proofs.TextLemmas.{board_law}
 use Rattle.certificate.proofs.SourceLemmas.{first_refuses, then_refuses, found_as}
@@ -15,7 +15,7 @@ pub returns-in_err-start : goal.returns-in_err-start
 unfolding body
 returns-in_err-start g c =
     let state = g.S.Source.state in
-    let r = subst (λ (g : Grid). Refuses (board g) (change state c.args.source.now c.read_board.new.source) c.in_err-start.field-0.0) c.shape-shape.ensures.value c.in_err-start.ensures in
+    let r = subst (λ (g : ShapeModel). RefusesInput (board g) (change state c.args.source.now c.read_board.new.source) c.in_err-start.field-0.0) c.shape-shape.ensures.value c.in_err-start.ensures in
     passed (body c.args.version c.args.claim c.args.costs c.args.groups) _ (change state c.args.source.now c.read_board.new.source) c.from_residual.result c.in_err-start.field-0.0 c.from_residual.ensures.1
     (first_refuses _ r)
 
@@ -24,8 +24,8 @@ unfolding body
 returns-in_err-goal g c =
     let state = g.S.Source.state in
     let grid = c.args.costs.grid in
-    let start = subst (λ (g : Grid). Finds (SpellsBoard g) (change state c.args.source.now c.read_board.new.source) c.in_ok-start.start) c.shape-shape.ensures.value c.in_ok-start.ensures in
-    let r = subst (λ (g : Grid). Refuses (board g) (change state c.read_board.new.source c.read_board-2.new.source) c.in_err-goal.field-0.0) c.shape-shape.ensures.value c.in_err-goal.ensures in
+    let start = subst (λ (g : ShapeModel). Finds (SpellsBoard g) (change state c.args.source.now c.read_board.new.source) c.in_ok-start.start) c.shape-shape.ensures.value c.in_ok-start.ensures in
+    let r = subst (λ (g : ShapeModel). RefusesInput (board g) (change state c.read_board.new.source c.read_board-2.new.source) c.in_err-goal.field-0.0) c.shape-shape.ensures.value c.in_err-goal.ensures in
     passed (body c.args.version c.args.claim c.args.costs c.args.groups) _ (change state c.args.source.now c.read_board-2.new.source) c.from_residual-in_err-goal.result c.in_err-goal.field-0.0 c.from_residual-in_err-goal.ensures.1
     (then_refuses _ (board_law grid c.shape-shape.ensures.rule.sides) start (first_refuses _ r))
 
@@ -34,16 +34,16 @@ unfolding body
 returns-in_err-claim g c =
     let state = g.S.Source.state in
     let grid = c.args.costs.grid in
-    let start = subst (λ (g : Grid). Finds (SpellsBoard g) (change state c.args.source.now c.read_board.new.source) c.in_ok-start.start) c.shape-shape.ensures.value c.in_ok-start.ensures in
-    let end = subst (λ (g : Grid). Finds (SpellsBoard g) (change state c.read_board.new.source c.read_board-2.new.source) c.in_ok-goal.goal) c.shape-shape.ensures.value c.in_ok-goal.ensures in
+    let start = subst (λ (g : ShapeModel). Finds (SpellsBoard g) (change state c.args.source.now c.read_board.new.source) c.in_ok-start.start) c.shape-shape.ensures.value c.in_ok-start.ensures in
+    let end = subst (λ (g : ShapeModel). Finds (SpellsBoard g) (change state c.read_board.new.source c.read_board-2.new.source) c.in_ok-goal.goal) c.shape-shape.ensures.value c.in_ok-goal.ensures in
     passed (body c.args.version c.args.claim c.args.costs c.args.groups) _ (change state c.args.source.now c.read_claimed.new.source) c.from_residual-in_err-claim.result c.in_err-claim.field-0.0 c.from_residual-in_err-claim.ensures.1
     (then_refuses _ (board_law grid c.shape-shape.ensures.rule.sides) start (then_refuses _ (board_law grid c.shape-shape.ensures.rule.sides) end (first_refuses _ c.in_err-claim.ensures)))
 
 pub returns : goal.returns
 returns g c =
     let state = g.S.Source.state in
-    let start = subst (λ (g : Grid). Finds (SpellsBoard g) (change state c.args.source.now c.read_board.new.source) c.in_ok-start.start) c.shape-shape.ensures.value c.in_ok-start.ensures in
-    let end = subst (λ (g : Grid). Finds (SpellsBoard g) (change state c.read_board.new.source c.read_board-2.new.source) c.in_ok-goal.goal) c.shape-shape.ensures.value c.in_ok-goal.ensures in
+    let start = subst (λ (g : ShapeModel). Finds (SpellsBoard g) (change state c.args.source.now c.read_board.new.source) c.in_ok-start.start) c.shape-shape.ensures.value c.in_ok-start.ensures in
+    let end = subst (λ (g : ShapeModel). Finds (SpellsBoard g) (change state c.read_board.new.source c.read_board-2.new.source) c.in_ok-goal.goal) c.shape-shape.ensures.value c.in_ok-goal.ensures in
     let claim = c.in_ok-claim.claim in
     let claimed = found_as {y = (cost_of claim, plan_of claim)} (λ text spells. spells) c.in_ok-claim.ensures in
     found_as (λ text spells. spells)

@@ -2,7 +2,7 @@ use Rattle.std.proofs.Common.{◌≡◌, ◌≤◌, ◌≢◌, ℕ, zero, suc, L
 use Rattle.byte_streams.specs.Streams.{Change, SourceState, from_to, change}
 use Rattle.certificate.specs.Fields.{SpellsNumber, SpellsNumberWithin, SpellsClaimed}
 use Rattle.certificate.specs.Readings.{number, number_within, plan, claimed}
-use Rattle.certificate.specs.Sources.{Refuses, Finds}
+use Rattle.certificate.specs.Sources.{RefusesInput, Finds}
 use Rattle.certificate.specs.declared.certificate.TheConstants.{GREATEST_BOUND}
 use Rattle.certificate.specs.declared.faults.ReadFault.{ReadFault}
 use Rattle.certificate.proofs.ReaderLemmas.{passed}
@@ -10,15 +10,15 @@ use Rattle.certificate.proofs.TextLemmas.{number_law}
 use Rattle.certificate.proofs.SourceLemmas.{first_refuses, then_refuses}
 use Rattle.certificate.proofs.reading.read_claimed.Goals as goal
 
-bound_refuses : (claim : ℕ) (source : Change SourceState) (f : ReadFault) → claim ≢ 0 → Refuses (number_within GREATEST_BOUND) source f → Refuses (claimed claim) source f
+bound_refuses : (claim : ℕ) (source : Change SourceState) (f : ReadFault) → claim ≢ 0 → RefusesInput (number_within GREATEST_BOUND) source f → RefusesInput (claimed claim) source f
 bound_refuses zero source f other r = absurd (other refl)
 bound_refuses (suc claim) source f other r = first_refuses _ r
 
-cost_refuses : (claim : ℕ) (source : Change SourceState) (f : ReadFault) → claim ≡ 0 → Refuses number source f → Refuses (claimed claim) source f
+cost_refuses : (claim : ℕ) (source : Change SourceState) (f : ReadFault) → claim ≡ 0 → RefusesInput number source f → RefusesInput (claimed claim) source f
 cost_refuses zero source f none r = first_refuses _ r
 cost_refuses (suc claim) source f none r = absurd (omega (arith, none))
 
-plan_refuses : (claim : ℕ) (old mid new : SourceState) (cost : ℕ) (f : ReadFault) → claim ≡ 0 → Finds SpellsNumber (from_to old mid) cost → Refuses plan (from_to mid new) f → Refuses (claimed claim) (from_to old new) f
+plan_refuses : (claim : ℕ) (old mid new : SourceState) (cost : ℕ) (f : ReadFault) → claim ≡ 0 → Finds SpellsNumber (from_to old mid) cost → RefusesInput plan (from_to mid new) f → RefusesInput (claimed claim) (from_to old new) f
 plan_refuses zero old mid new cost f none n r = then_refuses _ number_law n (first_refuses _ r)
 plan_refuses (suc claim) old mid new cost f none n r = absurd (omega (arith, none))
 

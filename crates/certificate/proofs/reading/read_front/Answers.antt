@@ -1,10 +1,10 @@
 use Rattle.std.proofs.Common.{refl, subst, List, ℕ, ◌++◌}
 use Rattle.byte_streams.specs.Streams.{change}
-use Rattle.board.specs.Grids.{Grid}
+use Rattle.board.specs.Shapes.{ShapeModel}
 use Rattle.certificate.specs.Certificates.{statement_of}
 use Rattle.certificate.specs.Fields.{SpellsAllGroups, SpellsBody, SpellsFront}
 use Rattle.certificate.specs.Readings.{all_groups, body, front}
-use Rattle.certificate.specs.Sources.{Refuses, Finds}
+use Rattle.certificate.specs.Sources.{RefusesInput, Finds}
 use Rattle.certificate.specs.declared.certificate.Parts.{Parts}
 use Rattle.certificate.proofs.ReaderLemmas.{passed, Both}
 use Rattle.certificate.proofs.TextLemmas.{beginning_law, opening_law}
@@ -29,7 +29,7 @@ pub returns-in_err-groups : goal.returns-in_err-groups
 unfolding front
 returns-in_err-groups g c =
     let state = g.S.Source.state in
-    let r = subst (λ (g : Grid). Refuses (all_groups g) (change state c.read_opening.new.source c.read_all_groups.new.source) c.in_err-groups.field-0.0) c.shape.ensures.value c.in_err-groups.ensures in
+    let r = subst (λ (g : ShapeModel). RefusesInput (all_groups g) (change state c.read_opening.new.source c.read_all_groups.new.source) c.in_err-groups.field-0.0) c.shape.ensures.value c.in_err-groups.ensures in
     passed front _ (change g.S.Source.state c.args.source.now c.read_all_groups.new.source) c.from_residual-in_err-groups.result c.in_err-groups.field-0.0 c.from_residual-in_err-groups.ensures.1
     (then_refuses _ beginning_law c.in_ok-form.ensures (then_refuses _ opening_law c.in_ok-costs.ensures (first_refuses _ r)))
 
@@ -41,7 +41,7 @@ returns g c =
     let version = c.in_ok-form.form.0 in
     let claim = c.in_ok-form.form.1 in
     let costs = c.in_ok-costs.costs in
-    let groups = subst (λ (g : Grid). Finds (SpellsAllGroups g) (change state c.read_opening.new.source c.read_all_groups.new.source) c.in_ok-groups.groups) c.shape.ensures.value c.in_ok-groups.ensures in
+    let groups = subst (λ (g : ShapeModel). Finds (SpellsAllGroups g) (change state c.read_opening.new.source c.read_all_groups.new.source) c.in_ok-groups.groups) c.shape.ensures.value c.in_ok-groups.ensures in
     let low = at_most_one version claim c.in_ok-form.ensures.spells.allowed in
     reads_after _ (λ (parts : Parts). CostsParts version claim (statement_of parts)) (λ (parts : Parts). SpellsFront (statement_of parts)) new c.read_body.result beginning_law
     (λ (parts : Parts) (s t : List ℕ) f both. front_there (statement_of parts) (s ++ t) ((version, claim), s, t, f, both, refl)) c.in_ok-form.ensures

@@ -1,8 +1,8 @@
 use Rattle.std.proofs.Common.{◌≡◌, ◌++◌, refl, subst}
 use Rattle.byte_streams.specs.Streams.{change}
-use Rattle.board.specs.Grids.{Grid}
+use Rattle.board.specs.Shapes.{ShapeModel}
 use Rattle.certificate.specs.Fields.{SpellsCosts, SpellsOpening}
-use Rattle.certificate.specs.Sources.{Reads}
+use Rattle.certificate.specs.Sources.{ReadsField}
 use Rattle.certificate.specs.Readings.{opening, grid_of, costs_of}
 use Rattle.certificate.proofs.ReaderLemmas.{passed}
 use Rattle.certificate.proofs.TextLemmas.{byte_law, opening_there, ColsParts, KindParts}
@@ -38,7 +38,7 @@ returns g c =
     let kind = c.in_ok-kind.kind in
     let grid = grid_of rows cols in
     let sides : c.unwrap-shape.result ≡ grid = rw c.unwrap-shape.ensures at c.new.ensures.value in
-    let last = subst (λ (g : Grid). Reads (costs_of g kind) (SpellsCosts g kind) (change state c.read_byte-3.new.source c.read_costs.new.source) result) sides c.read_costs.ensures in
+    let last = subst (λ (g : ShapeModel). ReadsField (costs_of g kind) (SpellsCosts g kind) (change state c.read_byte-3.new.source c.read_costs.new.source) result) sides c.read_costs.ensures in
     reads_after _ (ColsParts rows) SpellsOpening new result (byte_law 2 5) (λ costs s t n p. opening_there costs (s ++ t) (rows, s, t, n, p, refl)) c.in_ok-rows.ensures
     (reads_after _ (KindParts rows cols) (ColsParts rows) new result (byte_law 2 5) (λ costs s t n p. (cols, s, t, n, p, refl)) c.in_ok-cols.ensures
     (reads_after (costs_of grid) (SpellsCosts grid kind) (KindParts rows cols) new result (byte_law 0 2) (λ costs s t n p. (kind, s, t, n, p, refl)) c.in_ok-kind.ensures last))

@@ -1,7 +1,7 @@
 use Rattle.std.proofs.Common.{◌≤◌, ◌++◌, List, subst, sym, length, ap, ◌∙◌}
-use Rattle.board.specs.CostRules.{CostRule}
-use Rattle.pattern_index.specs.Selections.{Selection}
-use Rattle.pattern_index.specs.Splits.{Split}
+use Rattle.board.specs.Weights.{WeightsModel}
+use Rattle.pattern_index.specs.Groups.{GroupModel}
+use Rattle.pattern_index.specs.Partitions.{PartitionModel}
 use Rattle.byte_streams.specs.Streams.{change}
 use Rattle.byte_streams.specs.Sink.{WritesAll, FailsWriting}
 use Rattle.byte_streams.proofs.SinkLemmas.{Writes-after}
@@ -11,8 +11,8 @@ use Rattle.certificate.proofs.writing.write_front.Goals as goal
 
 pub write_groups-requires : goal.write_groups-requires
 write_groups-requires g c =
-    let groups = c.groups-2.ensures ∙ ap (λ (s : Split). s.groups) c.groups.ensures.value in
-    subst (λ (gs : List Selection). length gs ≤ 24) (sym groups) c.groups.ensures.partition.split.few
+    let groups = c.groups-2.ensures ∙ ap (λ (s : PartitionModel). s.groups) c.groups.ensures.value in
+    subst (λ (gs : List GroupModel). length gs ≤ 24) (sym groups) c.groups.ensures.partition.split.few
 
 pub returns-in_err-write_beginning : goal.returns-in_err-write_beginning
 returns-in_err-write_beginning g c =
@@ -27,27 +27,27 @@ returns-in_err-write_opening g c =
     let r = c.from_residual-in_err-write_opening.result in
     let rest = groups_text d.groups.groups ++ body_text d in
     Writes-after (state c.args.sink.now) (state c.write_beginning.new.sink) (state c.write_opening.new.sink) (beginning_text d.version (claim_of d.plan)) (opening_text d.costs ++ rest) r c.in_ok-write_beginning.ensures
-    (writes_stop _ sink (opening_text d.costs) rest r c.from_residual-in_err-write_opening.ensures.1 (subst (λ (x : CostRule). FailsWriting sink (opening_text x)) c.costs.ensures c.in_err-write_opening.ensures))
+    (writes_stop _ sink (opening_text d.costs) rest r c.from_residual-in_err-write_opening.ensures.1 (subst (λ (x : WeightsModel). FailsWriting sink (opening_text x)) c.costs.ensures c.in_err-write_opening.ensures))
 
 pub returns-in_err-write_groups : goal.returns-in_err-write_groups
 returns-in_err-write_groups g c =
     let state = g.K.Sink.state in
     let d = c.args.certificate.now in
     let r = c.from_residual-in_err-write_groups.result in
-    let groups = c.groups-2.ensures ∙ ap (λ (s : Split). s.groups) c.groups.ensures.value in
+    let groups = c.groups-2.ensures ∙ ap (λ (s : PartitionModel). s.groups) c.groups.ensures.value in
     let rest = groups_text d.groups.groups ++ body_text d in
     Writes-after (state c.args.sink.now) (state c.write_beginning.new.sink) (state c.write_groups.new.sink) (beginning_text d.version (claim_of d.plan)) (opening_text d.costs ++ rest) r c.in_ok-write_beginning.ensures
-    (Writes-after (state c.write_beginning.new.sink) (state c.write_opening.new.sink) (state c.write_groups.new.sink) (opening_text d.costs) rest r (subst (λ (x : CostRule). WritesAll (change state c.write_beginning.new.sink c.write_opening.new.sink) (opening_text x)) c.costs.ensures c.in_ok-write_opening.ensures)
-    (writes_stop _ (change state c.write_opening.new.sink c.write_groups.new.sink) (groups_text d.groups.groups) (body_text d) r c.from_residual-in_err-write_groups.ensures.1 (subst (λ (x : List Selection). FailsWriting (change state c.write_opening.new.sink c.write_groups.new.sink) (groups_text x)) groups c.in_err-write_groups.ensures)))
+    (Writes-after (state c.write_beginning.new.sink) (state c.write_opening.new.sink) (state c.write_groups.new.sink) (opening_text d.costs) rest r (subst (λ (x : WeightsModel). WritesAll (change state c.write_beginning.new.sink c.write_opening.new.sink) (opening_text x)) c.costs.ensures c.in_ok-write_opening.ensures)
+    (writes_stop _ (change state c.write_opening.new.sink c.write_groups.new.sink) (groups_text d.groups.groups) (body_text d) r c.from_residual-in_err-write_groups.ensures.1 (subst (λ (x : List GroupModel). FailsWriting (change state c.write_opening.new.sink c.write_groups.new.sink) (groups_text x)) groups c.in_err-write_groups.ensures)))
 
 pub returns : goal.returns
 returns g c =
     let state = g.K.Sink.state in
     let d = c.args.certificate.now in
     let r = c.write_body.result in
-    let groups = c.groups-2.ensures ∙ ap (λ (s : Split). s.groups) c.groups.ensures.value in
+    let groups = c.groups-2.ensures ∙ ap (λ (s : PartitionModel). s.groups) c.groups.ensures.value in
     let rest = groups_text d.groups.groups ++ body_text d in
     Writes-after (state c.args.sink.now) (state c.write_beginning.new.sink) (state c.write_body.new.sink) (beginning_text d.version (claim_of d.plan)) (opening_text d.costs ++ rest) r c.in_ok-write_beginning.ensures
-    (Writes-after (state c.write_beginning.new.sink) (state c.write_opening.new.sink) (state c.write_body.new.sink) (opening_text d.costs) rest r (subst (λ (x : CostRule). WritesAll (change state c.write_beginning.new.sink c.write_opening.new.sink) (opening_text x)) c.costs.ensures c.in_ok-write_opening.ensures)
-    (Writes-after (state c.write_opening.new.sink) (state c.write_groups.new.sink) (state c.write_body.new.sink) (groups_text d.groups.groups) (body_text d) r (subst (λ (x : List Selection). WritesAll (change state c.write_opening.new.sink c.write_groups.new.sink) (groups_text x)) groups c.in_ok-write_groups.ensures)
+    (Writes-after (state c.write_beginning.new.sink) (state c.write_opening.new.sink) (state c.write_body.new.sink) (opening_text d.costs) rest r (subst (λ (x : WeightsModel). WritesAll (change state c.write_beginning.new.sink c.write_opening.new.sink) (opening_text x)) c.costs.ensures c.in_ok-write_opening.ensures)
+    (Writes-after (state c.write_opening.new.sink) (state c.write_groups.new.sink) (state c.write_body.new.sink) (groups_text d.groups.groups) (body_text d) r (subst (λ (x : List GroupModel). WritesAll (change state c.write_opening.new.sink c.write_groups.new.sink) (groups_text x)) groups c.in_ok-write_groups.ensures)
     c.write_body.ensures))

@@ -2,7 +2,7 @@ use Rattle.std.proofs.lemmas.Result.{IfOk-weaker, IfErr-weaker}
 use Rattle.reports.specs.declared.report.NoReport.{NoReport}
 use Rattle.std.proofs.Common.{◌≡◌}
 use Rattle.certificate_runs.specs.declared.faults.CertifyFault.TheVariants.{Memory}
-use Rattle.certificate_runs.specs.Certifying.{IsReply, IsRefusal, HasNoReply}
+use Rattle.certificate_runs.specs.Certifying.{IsCertifyReply, IsRefusalReply, HasNoReply}
 use Rattle.certificate_runs.proofs.CertifyLemmas.{refused_line, report_lacks}
 use Rattle.certificate_runs.proofs.certifying.reply_to_line.Goals as goal
 
@@ -10,7 +10,7 @@ pub returns-in_default-clause-reply : goal.returns-in_default-clause-reply
 returns-in_default-clause-reply g c =
     let split = (g.A.Prover.setup c.args.prover.now).tables.split in
     let rules = g.A.ProofRuled.rules c.args.prover.now in
-    IfOk-weaker c.refuse.result (IsRefusal c.code.result.now c.args.line.number) (IsReply split rules c.args.line c.args.bytes.now)
+    IfOk-weaker c.refuse.result (IsRefusalReply c.code.result.now c.args.line.number) (IsCertifyReply split rules c.args.line c.args.bytes.now)
     (λ reply refused. refused_line split rules c.args.line.number c.args.line.kind c.args.bytes.now reply c.requires.kind c.in_default.not-Within (rw c.code.ensures at refused)) c.refuse.ensures.refusal
 
 pub returns-in_default-clause-lacking : goal.returns-in_default-clause-lacking

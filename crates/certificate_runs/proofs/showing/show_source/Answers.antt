@@ -1,6 +1,6 @@
 use Rattle.std.proofs.Common.{Result, Ok, refl, sym, subst, inl, inr}
 use Rattle.byte_streams.specs.Streams.{change}
-use Rattle.certificate.specs.Certificates.{Statement}
+use Rattle.certificate.specs.Certificates.{CertificateModel}
 use Rattle.certificate.specs.declared.faults.ReadFault.{ReadFault}
 use Rattle.certificate_runs.specs.Outputs.{Output}
 use Rattle.certificate_runs.specs.Showing.{IsDrawn}
@@ -12,7 +12,7 @@ pub returns-in-Ok-draw : goal.returns-in-Ok-draw
 returns-in-Ok-draw g c =
     let source = change g.S.Source.state c.args.source.now c.read.new.source in
     let sink = change g.K.Sink.state c.args.sink.now c.put_output.new.sink in
-    let read : Result Statement ReadFault = Ok c.in-Ok.certificate in
+    let read : Result CertificateModel ReadFault = Ok c.in-Ok.certificate in
     let output : Output = record { text = c.as_slice.result.now; status = 0 } in
     let drawn : IsDrawn c.args.style c.in-Ok.certificate output = record { leads = c.in-Ok-check_plan.ensures.leads; drawn = subst (IsDrawing c.args.style c.in-Ok.certificate) (sym c.as_slice.ensures.value) c.in-Ok-draw.ensures; well = refl } in
     shown c.args.style source sink read c.in-Ok.ensures output c.put_output.result (inl drawn) c.put_output.ensures
@@ -21,5 +21,5 @@ pub returns-in-Ok : goal.returns-in-Ok
 returns-in-Ok g c =
     let source = change g.S.Source.state c.args.source.now c.read.new.source in
     let sink = change g.K.Sink.state c.args.sink.now c.put_refusal.new.sink in
-    let read : Result Statement ReadFault = Ok c.in-Ok.certificate in
+    let read : Result CertificateModel ReadFault = Ok c.in-Ok.certificate in
     refusal_shown c.args.style source sink read c.in-Ok.ensures c.code.result.now c.put_refusal.result tt (λ output refused. inr (c.in-Err.refusal, c.in-Err.ensures.refused, rw c.code.ensures at refused)) c.put_refusal.ensures

@@ -1,15 +1,15 @@
 use Rattle.std.proofs.Common.{◌≡◌, ◌∙◌, refl, sym, ap, subst, inl, inr, arith}
-use Rattle.board.specs.CostRules.{CostRule, IsCostRule}
+use Rattle.board.specs.Weights.{WeightsModel, AreWeights}
 use Rattle.board.specs.Classes.{SameClass}
 use Rattle.outcomes.specs.Outcomes.{Answers}
 use Rattle.outcomes.specs.declared.outcome.Outcome.TheVariants.{Optimal, Unsolvable}
 use Rattle.outcomes.specs.declared.outcome.Why.TheVariants.{Parity}
-use Rattle.lower_bound.specs.Tables.{Tables, IsTables}
-use Rattle.certificate.specs.Certificates.{Statement, AreCostsOf, IsCertificate}
+use Rattle.lower_bound.specs.Tables.{BoundModel, IsTables}
+use Rattle.certificate.specs.Certificates.{CertificateModel, AreCostsOf, IsCertificate}
 use Rattle.certificate_check.specs.Refusals.{IsProved, IsFirstRefusal}
 use Rattle.hda_run.specs.declared.faults.WorldFault.{WorldFault}
 use Rattle.hda_run.specs.declared.faults.WorldFault.TheVariants as world
-use Rattle.hda_run.specs.Problems.{task_in}
+use Rattle.hda_run.specs.Jobs.{task_in}
 use Rattle.hda_run.specs.Worlds.{IsWorkerCount}
 use Rattle.checked_runs.specs.declared.faults.CheckedFault.{CheckedFault}
 use Rattle.checked_runs.specs.declared.faults.CheckedFault.TheVariants.{WorkerCount, Refused}
@@ -41,12 +41,12 @@ accepted-requires-clause-certificate g c =
     let goal_is : c.goal-goal.result.now ≡ p.goal = c.goal-goal.ensures.value in
     let tables_is : c.bound.result.now ≡ p.tables = c.bound.ensures.value in
     let there : IsTables p.tables = subst IsTables tables_is c.partition.ensures.tables in
-    let sides : p.tables.split.grid ≡ p.goal.grid = subst (λ (t : Tables). t.split.grid ≡ p.goal.grid) tables_is c.bound.ensures.sides in
+    let sides : p.tables.split.grid ≡ p.goal.grid = subst (λ (t : BoundModel). t.split.grid ≡ p.goal.grid) tables_is c.bound.ensures.sides in
     let answers : Answers (task_in p) (Optimal made.cost made.plan made.rows) = rw made.is at c.in-Ok.ensures.answers in
-    let costs : AreCostsOf p.goal.grid p.rule = record { rule = subst IsCostRule c.weights.ensures.value c.shape.ensures.rule; sides = sym (ap (λ (r : CostRule). r.grid) c.weights.ensures.value) ∙ c.weights.ensures.sides } in
+    let costs : AreCostsOf p.goal.grid p.rule = record { rule = subst AreWeights c.weights.ensures.value c.shape.ensures.rule; sides = sym (ap (λ (r : WeightsModel). r.grid) c.weights.ensures.value) ∙ c.weights.ensures.sides } in
     let is = certificate_is p made.cost made.plan made.rows answers c.goal-goal.ensures.task c.keys_are_in_order.ensures there sides costs (omega (arith, made.rows.small)) in
     let same = stated p c.shape.result c.weights.result.now c.in-Ok-groups.groups c.start-start.result.now c.goal-goal.result.now made.cost made.plan.items made.rows.items
-    (c.shape.ensures.value ∙ c.weights.ensures.sides) c.weights.ensures.value (c.in-Ok-groups.ensures ∙ c.partition.ensures.value ∙ ap (λ (t : Tables). t.split) tables_is) c.start-start.ensures goal_is in
+    (c.shape.ensures.value ∙ c.weights.ensures.sides) c.weights.ensures.value (c.in-Ok-groups.ensures ∙ c.partition.ensures.value ∙ ap (λ (t : BoundModel). t.split) tables_is) c.start-start.ensures goal_is in
     subst IsCertificate (sym same) is
 
 pub returns-in-Ok-accepted-clause-run : goal.returns-in-Ok-accepted-clause-run
@@ -66,11 +66,11 @@ returns-in-Err-accepted-clause-refused g c refusal is =
     let goal_is : c.goal-goal.result.now ≡ p.goal = c.goal-goal.ensures.value in
     let tables_is : c.bound.result.now ≡ p.tables = c.bound.ensures.value in
     let same = stated p c.shape.result c.weights.result.now c.in-Ok-groups.groups c.start-start.result.now c.goal-goal.result.now made.cost made.plan.items made.rows.items
-    (c.shape.ensures.value ∙ c.weights.ensures.sides) c.weights.ensures.value (c.in-Ok-groups.ensures ∙ c.partition.ensures.value ∙ ap (λ (t : Tables). t.split) tables_is) c.start-start.ensures goal_is in
+    (c.shape.ensures.value ∙ c.weights.ensures.sides) c.weights.ensures.value (c.in-Ok-groups.ensures ∙ c.partition.ensures.value ∙ ap (λ (t : BoundModel). t.split) tables_is) c.start-start.ensures goal_is in
     let answers : Answers (task_in p) (Optimal made.cost made.plan made.rows) = rw made.is at c.in-Ok.ensures.answers in
     let together : SameClass p.start p.goal = c.plans_keep_the_class.ensures.plans p.rule p.start made.plan.items p.goal made.cost c.goal-goal.ensures.task.start answers.0 in
     let solved = rw made.is at (c.in-Ok.ensures.run together) in
-    let first : IsFirstRefusal (certificate_in p made.cost made.plan.items made.rows.items) c.args.tables.now c.in-Err-accepted.refusal = subst (λ (s : Statement). IsFirstRefusal s c.args.tables.now c.in-Err-accepted.refusal) same c.in-Err-accepted.ensures.refused in
+    let first : IsFirstRefusal (certificate_in p made.cost made.plan.items made.rows.items) c.args.tables.now c.in-Err-accepted.refusal = subst (λ (s : CertificateModel). IsFirstRefusal s c.args.tables.now c.in-Err-accepted.refusal) same c.in-Err-accepted.ensures.refused in
     (made.cost, made.plan, made.rows, solved, subst (IsFirstRefusal (certificate_in p made.cost made.plan.items made.rows.items) c.args.tables.now) (one_refusal c.in-Err-accepted.refusal refusal is) first)
 
 pub returns-in-Err-accepted-clause-sure : goal.returns-in-Err-accepted-clause-sure
@@ -80,8 +80,8 @@ returns-in-Err-accepted-clause-sure g c good refusal is =
     let goal_is : c.goal-goal.result.now ≡ p.goal = c.goal-goal.ensures.value in
     let tables_is : c.bound.result.now ≡ p.tables = c.bound.ensures.value in
     let same = stated p c.shape.result c.weights.result.now c.in-Ok-groups.groups c.start-start.result.now c.goal-goal.result.now made.cost made.plan.items made.rows.items
-    (c.shape.ensures.value ∙ c.weights.ensures.sides) c.weights.ensures.value (c.in-Ok-groups.ensures ∙ c.partition.ensures.value ∙ ap (λ (t : Tables). t.split) tables_is) c.start-start.ensures goal_is in
+    (c.shape.ensures.value ∙ c.weights.ensures.sides) c.weights.ensures.value (c.in-Ok-groups.ensures ∙ c.partition.ensures.value ∙ ap (λ (t : BoundModel). t.split) tables_is) c.start-start.ensures goal_is in
     let answers : Answers (task_in p) (Optimal made.cost made.plan made.rows) = rw made.is at c.in-Ok.ensures.answers in
     let proved : IsProved (certificate_in p made.cost made.plan.items made.rows.items) c.args.tables.now = proved_with p made.cost made.plan made.rows answers c.goal-goal.ensures.task c.args.tables.now good in
-    let accepted = c.in-Err-accepted.ensures.accepted.1 (subst (λ (s : Statement). IsProved s c.args.tables.now) (sym same) proved) in
+    let accepted = c.in-Err-accepted.ensures.accepted.1 (subst (λ (s : CertificateModel). IsProved s c.args.tables.now) (sym same) proved) in
     absurd (cc accepted)

@@ -1,7 +1,7 @@
 use Rattle.std.proofs.Common.{◌≡◌, ◌∙◌, Option, codes, sym, subst}
 use Rattle.clap.specs.Words.{Text, first_of, found_of, rows_of}
 use Rattle.clap.proofs.WalkLemmas.{first_value-rows}
-use Rattle.board.specs.Grids.{Grid}
+use Rattle.board.specs.Shapes.{ShapeModel}
 use Rattle.board_lists.specs.Lists.{MayBeListed}
 use Rattle.command_line.specs.Requests.{HasShape, IsGoalSaid, IsGoalFault}
 use Rattle.command_line.proofs.listings.listing_in.Goals as goal
@@ -16,9 +16,9 @@ returns-in-Ok-goal_said-clause-listing c =
     let sides : shape ≡ home.grid = sym c.in-Ok-goal_said.ensures.sides in
     record {
       shape = subst (HasShape (rows_of found)) sides c.in-Some.ensures;
-      goal = subst (λ (g : Grid). IsGoalSaid g (first_of (codes "goal") (rows_of found)) home) sides said;
+      goal = subst (λ (g : ShapeModel). IsGoalSaid g (first_of (codes "goal") (rows_of found)) home) sides said;
       choice = c.in-Ok.ensures.choice;
-      small = subst (λ (g : Grid). MayBeListed g c.in-Ok.choice) sides c.in-Ok.ensures.small;
+      small = subst (λ (g : ShapeModel). MayBeListed g c.in-Ok.choice) sides c.in-Ok.ensures.small;
     }
 
 pub returns-in-Err-goal_said-clause-refusal : goal.returns-in-Err-goal_said-clause-refusal

@@ -1,5 +1,5 @@
 use Rattle.std.proofs.Common.{◌≡◌, ℕ, ap, ◌∙◌, arith}
-use Rattle.board.specs.Grids.{cell_count}
+use Rattle.board.specs.Shapes.{cell_count}
 use Rattle.pattern_graph.specs.Sets.{choose}
 use Rattle.database_build.proofs.LeastLemmas.{least_to_none, least_to_all, least_to_more, row_fresh}
 use Rattle.database_build.proofs.least.fold_nodes.Goals as goal

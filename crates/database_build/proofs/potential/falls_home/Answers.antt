@@ -1,6 +1,6 @@
 use Rattle.std.proofs.Common.{◌≡◌, sym, ◌∙◌, ap, refl, arith}
 use Rattle.std.proofs.lemmas.Bool.{false≢true}
-use Rattle.pattern_index.specs.Selections.{size_of}
+use Rattle.pattern_index.specs.Groups.{size_of}
 use Rattle.database_build.proofs.FoldLemmas.{potential_from_ranks, ranks_from_potential}
 use Rattle.database_build.proofs.potential.falls_home.Goals as goal
 

@@ -1,6 +1,6 @@
 use Rattle.std.proofs.Common.{sym, ap, ◌∙◌, subst, arith}
-use Rattle.pattern_index.specs.Selections.{rank_in}
-use Rattle.pattern_index.specs.Views.{IsView, Sight}
+use Rattle.pattern_index.specs.Groups.{rank_in}
+use Rattle.pattern_index.specs.Views.{IsView, ViewModel}
 use Rattle.database_build.proofs.EntryLemmas.{seen, tile_written}
 use Rattle.database_build.proofs.table.rank_of_digits.Goals as goal
 
@@ -12,7 +12,7 @@ tiles-preserved c =
 pub rank_at-requires : goal.rank_at-requires
 rank_at-requires c =
     let same = seen c.args.group.now c.args.base c.args.slot c.tiles.rest c.tiles.place c.tiles-tiles.result.now c.tiles.cells c.requires.base c.tiles-tiles.ensures.value (omega (arith, c.tiles-test.false)) c.tiles.invariant.blank c.tiles.invariant.are c.requires.view.0 c.requires.view.1 c.requires.view.2 in
-    subst (λ (v : Sight). IsView c.args.group.now.grid c.args.group.now.tiles v) (sym same) c.requires.view.1
+    subst (λ (v : ViewModel). IsView c.args.group.now.grid c.args.group.now.tiles v) (sym same) c.requires.view.1
 
 pub returns-clause-value : goal.returns-clause-value
 returns-clause-value c = λ v view at.

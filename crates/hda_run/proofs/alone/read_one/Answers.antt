@@ -1,4 +1,4 @@
-use Rattle.hda_run.specs.Problems.{task_in}
+use Rattle.hda_run.specs.Jobs.{task_in}
 use Rattle.hda_run.proofs.LawLemmas.{not_apart, parity_answers, parity_differs, parity_whole}
 use Rattle.hda_run.proofs.alone.read_one.Goals as goal
 

@@ -1,7 +1,7 @@
 use Rattle.std.proofs.Common.{◌≡◌, ◌<◌, ℕ, None, sym, subst, true, false}
 use Rattle.world_model.specs.declared.steps.Refusal.{Refusal}
 use Rattle.world_model.specs.declared.steps.Step.TheVariants.{Expand}
-use Rattle.hda_run.specs.Rounds.{Refuses, work_left}
+use Rattle.hda_run.specs.Rounds.{RefusesStep, work_left}
 use Rattle.hda_run.specs.Worlds.{world_of}
 use Rattle.hda_run.proofs.AloneLemmas.{expands, takes, stays, reaches_on, refused_alone, quiet_only}
 use Rattle.hda_run.proofs.alone.round.Goals as goal
@@ -31,7 +31,7 @@ be_granted-requires-clause-lone g c = (refused_alone (world_of g.S.Spread.owner_
 pub be_granted-requires-clause-spent : goal.be_granted-requires-clause-spent
 be_granted-requires-clause-spent g c =
     let new = world_of g.S.Spread.owner_of c.take.new.world in
-    subst (λ (r : Refusal). Refuses new (Expand 0) r) c.in-NoAllowance.is (refused_alone (world_of g.S.Spread.owner_of c.args.world.now) c.requires c.in-Err.refusal new c.in-Err.ensures.step).refuses
+    subst (λ (r : Refusal). RefusesStep new (Expand 0) r) c.in-NoAllowance.is (refused_alone (world_of g.S.Spread.owner_of c.args.world.now) c.requires c.in-Err.refusal new c.in-Err.ensures.step).refuses
 
 pub returns-in-Memory-clause-run : goal.returns-in-Memory-clause-run
 returns-in-Memory-clause-run g c =
@@ -43,7 +43,7 @@ returns-in-Memory-clause-run g c =
 pub returns-in-Memory-clause-stuck : goal.returns-in-Memory-clause-stuck
 returns-in-Memory-clause-stuck g c =
     let new = world_of g.S.Spread.owner_of c.take.new.world in
-    subst (λ (r : Refusal). Refuses new (Expand 0) r) c.in-Memory.is (refused_alone (world_of g.S.Spread.owner_of c.args.world.now) c.requires c.in-Err.refusal new c.in-Err.ensures.step).refuses
+    subst (λ (r : Refusal). RefusesStep new (Expand 0) r) c.in-Memory.is (refused_alone (world_of g.S.Spread.owner_of c.args.world.now) c.requires c.in-Err.refusal new c.in-Err.ensures.step).refuses
 
 pub returns-in_default-refusal : goal.returns-in_default-refusal
 returns-in_default-refusal g c =
@@ -54,6 +54,6 @@ returns-in_default-refusal g c =
     record {
       run = stays old new left.same left.lone;
       less = λ e. absurd (let e : false ≡ true = e in cc);
-      stuck = subst (λ (r : Refusal). Refuses new (Expand 0) r) quiet left.refuses;
+      stuck = subst (λ (r : Refusal). RefusesStep new (Expand 0) r) quiet left.refuses;
       job = c.take.ensures.job;
     }

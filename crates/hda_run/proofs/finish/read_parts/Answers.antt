@@ -1,11 +1,11 @@
 use Rattle.std.proofs.Common.{List, sym, ap, ◌∙◌, subst}
 use Rattle.lower_bound.specs.Bounds.{sum_of}
-use Rattle.lower_bound.specs.Tables.{Tables, parts_of}
-use Rattle.board.specs.Positions.{Position}
+use Rattle.lower_bound.specs.Tables.{BoundModel, parts_of}
+use Rattle.board.specs.Boards.{BoardModel}
 use Rattle.outcomes.specs.Outcomes.{Task}
 use Rattle.worker_core.specs.Roles.{guide_of}
-use Rattle.world_ends.specs.Parts.{AreGuided}
-use Rattle.hda_run.specs.Problems.{task_in}
+use Rattle.world_ends.specs.Parts.{AreWorkersGuided}
+use Rattle.hda_run.specs.Jobs.{task_in}
 use Rattle.hda_run.specs.Worlds.{world_of}
 use Rattle.hda_run.proofs.PartsLemmas.{W}
 use Rattle.hda_run.proofs.LowestLemmas.{items_in_lanes, lowest_is, lanes_in, same_task, has_parts}
@@ -21,9 +21,9 @@ read-requires-after_bounds g c κs within =
     let asked = c.asked_in-asked in
     let same = same_task p asked.result.start asked.result.goal asked.result.weights asked.result.bound.now asked.ensures.start asked.ensures.goal asked.ensures.weights asked.ensures.bound in
     record {
-      sides = ap (λ (tables : Tables). tables.split.grid) (asked.ensures.bound ∙ sym c.bound.ensures.value) ∙ c.bound.ensures.sides ∙ ap (λ (b : Position). b.grid) (sym asked.ensures.goal);
+      sides = ap (λ (tables : BoundModel). tables.split.grid) (asked.ensures.bound ∙ sym c.bound.ensures.value) ∙ c.bound.ensures.sides ∙ ap (λ (b : BoardModel). b.grid) (sym asked.ensures.goal);
       guide = guide_of (task_in p);
-      guided = subst (λ (task : Task). AreGuided task (guide_of (task_in p)) c.deref_mut.result.now) (sym same) (subst (λ (workers : List W). AreGuided (task_in p) (guide_of (task_in p)) workers) (sym c.deref_mut.ensures.value) c.requires.guided);
+      guided = subst (λ (task : Task). AreWorkersGuided task (guide_of (task_in p)) c.deref_mut.result.now) (sym same) (subst (λ (workers : List W). AreWorkersGuided (task_in p) (guide_of (task_in p)) workers) (sym c.deref_mut.ensures.value) c.requires.guided);
       world = world_of g.S.Spread.owner_of c.args.parts;
       parts = has_parts g.S.Spread.owner_of c.args.parts _ c.deref_mut.result.now same c.deref_mut.ensures.value c.requires;
     }
@@ -36,6 +36,6 @@ returns g c =
     let same = same_task p asked.result.start asked.result.goal asked.result.weights asked.result.bound.now asked.ensures.start asked.ensures.goal asked.ensures.weights asked.ensures.bound in
     c.read.ensures.given w (record {
       parts = has_parts g.S.Spread.owner_of c.args.parts _ c.deref_mut.result.now same c.deref_mut.ensures.value c.requires;
-      lanes = lowest_is w c.deref.result.now (sum_of (parts_of c.bound.result.now)) c.lowest_in_lanes.result (ap lanes_in c.deref.ensures.value) (ap (λ (tables : Tables). sum_of (parts_of tables)) c.bound.ensures.value) c.lowest_in_lanes.ensures;
+      lanes = lowest_is w c.deref.result.now (sum_of (parts_of c.bound.result.now)) c.lowest_in_lanes.result (ap lanes_in c.deref.ensures.value) (ap (λ (tables : BoundModel). sum_of (parts_of tables)) c.bound.ensures.value) c.lowest_in_lanes.ensures;
       stop = sym c.stop.ensures.value;
     })

@@ -1,5 +1,5 @@
 use Rattle.std.proofs.Common.{◌≡◌, ℕ, ap, ◌∙◌, subst, refl}
-use Rattle.board.specs.Positions.{IsBoard}
+use Rattle.board.specs.Boards.{IsBoard}
 use Rattle.board.specs.declared.moves.Move.TheVariants.{U}
 use Rattle.worker_core.specs.Contexts.{ContextModel, task_from}
 use Rattle.worker_core.specs.Roles.{guide_of}

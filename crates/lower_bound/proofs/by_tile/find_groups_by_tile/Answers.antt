@@ -2,12 +2,12 @@ use Rattle.std.proofs.Common.{ℕ, ◌≡◌, ◌∙◌, ◌<◌, ◌+◌, List,
 use Rattle.std.specs.Prelude.{slice_index}
 use Rattle.std.proofs.lemmas.List.{length-set, get_or-set_same, get_or-set_other}
 use Rattle.std.proofs.Math.Nat.{eq-or-lt_of_le}
-use Rattle.pattern_index.specs.Selections.{Selection}
+use Rattle.pattern_index.specs.Groups.{GroupModel}
 use Rattle.lower_bound.specs.ByTile.{IsGroupWith}
 use Rattle.lower_bound.proofs.by_tile.find_groups_by_tile.Goals as goal
 
 -- one number more has its group
-one_more : (groups : List Selection) (places : List ℕ) (number place : ℕ) → number < length places → IsGroupWith groups number place → ((tile : ℕ) → tile < number → IsGroupWith groups tile (slice_index places tile)) → (tile : ℕ) → tile < number + 1 → IsGroupWith groups tile (slice_index (set places number place) tile)
+one_more : (groups : List GroupModel) (places : List ℕ) (number place : ℕ) → number < length places → IsGroupWith groups number place → ((tile : ℕ) → tile < number → IsGroupWith groups tile (slice_index places tile)) → (tile : ℕ) → tile < number + 1 → IsGroupWith groups tile (slice_index (set places number place) tile)
 one_more groups places number place within here before tile lt =
     ⊎_elim
     (λ (e : tile ≡ number). subst (λ (k : ℕ). IsGroupWith groups k (slice_index (set places number place) k)) (sym e) (subst (λ (p : ℕ). IsGroupWith groups number p) (sym (get_or-set_same places number place 0 within)) here))

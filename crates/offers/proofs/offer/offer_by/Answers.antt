@@ -1,9 +1,9 @@
 use Rattle.std.proofs.Common.{◌≡◌, ◌+◌, ℕ, Some, ap, ◌∙◌, subst, sym}
 use Rattle.std.specs.Prelude.{slice_index}
-use Rattle.board.specs.CostRules.{weight_of}
+use Rattle.board.specs.Weights.{weight_of}
 use Rattle.board.specs.Moves.{blank_exchange}
 use Rattle.board.specs.Neighbours.{neighbour}
-use Rattle.board.specs.Positions.{IsBoard, Position, blank_of}
+use Rattle.board.specs.Boards.{IsBoard, BoardModel, blank_of}
 use Rattle.lower_bound.specs.Bounds.{sum_of}
 use Rattle.lower_bound.specs.Slides.{IsMoveOf}
 use Rattle.lower_bound.specs.Tables.{parts_of}
@@ -21,7 +21,7 @@ sum_after_move-sum-requires-clause-moved g c =
     let beside = subst (λ (o : OriginModel). neighbour o.board.grid m (blank_of o.board) ≡ Some to) (sym c.origin.view_is) c.requires.beside.1 in
     let board = subst (λ (o : OriginModel). IsBoard o.board) (sym c.origin.view_is) c.requires.read.board in
     let read : c.args.reading.now ≡ b = c.requires.read.read ∙ sym (ap (λ (o : OriginModel). o.board) c.origin.view_is) in
-    (blank_exchange b to, subst (λ (p : Position). IsMoveOf c.slide-slid.result.tile p (blank_exchange b to)) (sym read) (is_move b m to board beside c.terms.inside.weights.now c.slide-slid.result.tile c.slide-slid.ensures.tile))
+    (blank_exchange b to, subst (λ (p : BoardModel). IsMoveOf c.slide-slid.result.tile p (blank_exchange b to)) (sym read) (is_move b m to board beside c.terms.inside.weights.now c.slide-slid.result.tile c.slide-slid.ensures.tile))
 
 pub returns-clause-offered : goal.returns-clause-offered
 returns-clause-offered g c = λ m found.
@@ -36,7 +36,7 @@ returns-clause-offered g c = λ m found.
     let beside = subst (λ (o : OriginModel). neighbour o.board.grid m (blank_of o.board) ≡ Some to) (sym c.origin.view_is) found in
     let board = subst (λ (o : OriginModel). IsBoard o.board) (sym c.origin.view_is) c.requires.read.board in
     let read : c.args.reading.now ≡ b = c.requires.read.read ∙ sym (ap (λ (o : OriginModel). o.board) c.origin.view_is) in
-    let moves = subst (λ (p : Position). IsMoveOf tile p next) (sym read) (is_move b m to board beside rule tile c.slide-slid.ensures.tile) in
+    let moves = subst (λ (p : BoardModel). IsMoveOf tile p next) (sym read) (is_move b m to board beside rule tile c.slide-slid.ensures.tile) in
     let weight : c.of.result ≡ weight_of rule (slice_index b.tiles to) = c.of.ensures.value ∙ ap (weight_of rule) c.slide-slid.ensures.tile in
     let sum = c.sum_after_move-sum.ensures.value next moves in
     let owned = subst (λ (t : TermsModel g.row.S.Denot). c.owner_after.result ≡ g.S.Spread.owner_of t.owners t.workers next) (sym c.terms.view_is) (c.owner_after.ensures.value next (record { board = board_after b m to board beside; sides = sym c.shape.ensures.value; packed = sym c.slide-slid.ensures.key })) in

@@ -4,7 +4,7 @@ use Rattle.std.proofs.lemmas.List.{length-append}
 use Rattle.board.specs.declared.moves.Move.{Move}
 use Rattle.board.specs.declared.moves.Move.TheVariants.{U}
 use Rattle.board.specs.Neighbours.{neighbour}
-use Rattle.board.specs.Positions.{blank_of}
+use Rattle.board.specs.Boards.{blank_of}
 use Rattle.lower_bound.specs.Bounds.{sum_of}
 use Rattle.lower_bound.specs.Tables.{parts_of}
 use Rattle.successor_sums.specs.ByMoves.{IsBehind, entries_of}

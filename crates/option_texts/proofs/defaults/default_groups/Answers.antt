@@ -4,7 +4,7 @@ use Rattle.std.specs.List.{range_with_len}
 use Rattle.std.proofs.lemmas.List.{map-append}
 use Rattle.std.proofs.lemmas.List.Elements.{All-push}
 use Rattle.std.proofs.lemmas.List.FromFn.{map-range_with_len_more}
-use Rattle.pattern_index.specs.Selections.{Selection}
+use Rattle.pattern_index.specs.Groups.{GroupModel}
 use Rattle.option_texts.specs.Defaults.{default_tiles}
 use Rattle.option_texts.proofs.LawLemmas.{defaults_apart, groups_count, groups_few}
 use Rattle.option_texts.proofs.defaults.default_groups.Goals as goal
@@ -16,12 +16,12 @@ groups-preserved c =
     let size = c.default_size-size.result in
     let cells = c.cells-cells.result in
     let items = c.in_ok-push.ensures.items in
-    let of_grid : group.grid ≡ c.args.shape = ap (λ (g : Selection). g.grid) c.rising_group.ensures in
-    let tiles : group.tiles ≡ default_tiles cells size c.groups.place = ap (λ (g : Selection). g.tiles) c.rising_group.ensures ∙ ap (range_with_len (1 + c.groups.place * size)) c.min.ensures in
+    let of_grid : group.grid ≡ c.args.shape = ap (λ (g : GroupModel). g.grid) c.rising_group.ensures in
+    let tiles : group.tiles ≡ default_tiles cells size c.groups.place = ap (λ (g : GroupModel). g.tiles) c.rising_group.ensures ∙ ap (range_with_len (1 + c.groups.place * size)) c.min.ensures in
     record {
-      of_grid = subst (λ (gs : List Selection). All (λ g. g.grid ≡ c.args.shape) gs) (sym items) (All-push (λ (g : Selection). g.grid ≡ c.args.shape) old group c.groups.invariant.of_grid of_grid);
+      of_grid = subst (λ (gs : List GroupModel). All (λ g. g.grid ≡ c.args.shape) gs) (sym items) (All-push (λ (g : GroupModel). g.grid ≡ c.args.shape) old group c.groups.invariant.of_grid of_grid);
       tiles =
-          ap (map (λ (g : Selection). g.tiles)) items ∙ map-append (λ (g : Selection). g.tiles) old (group ∷ [])
+          ap (map (λ (g : GroupModel). g.tiles)) items ∙ map-append (λ (g : GroupModel). g.tiles) old (group ∷ [])
           ∙ (λ i. c.groups.invariant.tiles i ++ tiles i ∷ []) ∙ sym (map-range_with_len_more (default_tiles cells size) 0 c.groups.place c.groups.place (omega arith));
     }
 

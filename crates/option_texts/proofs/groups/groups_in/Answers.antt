@@ -6,7 +6,7 @@ use Rattle.std.proofs.lemmas.List.{map-append}
 use Rattle.std.proofs.lemmas.Option.{slice_get-get_or}
 use Rattle.std.proofs.lemmas.Iterator.Splits.{YieldsList-from_str_split}
 use Rattle.std.proofs.lemmas.Iterator.Consumers.{YieldsList-end, YieldsList-turn, YieldsList-so_far}
-use Rattle.pattern_index.specs.Selections.{Selection}
+use Rattle.pattern_index.specs.Groups.{GroupModel}
 use Rattle.option_texts.specs.Texts.{AreGroupsOf}
 use Rattle.option_texts.proofs.TextLemmas.{groups_more}
 use Rattle.option_texts.proofs.groups.groups_in.Goals as goal
@@ -28,7 +28,7 @@ groups-preserved c =
     let more = groups_more c.args.shape (map (λ (piece : Bor (List ℕ)). piece.now) c.groups.yielded) c.groups.groups.items c.in-Some.piece.now c.in-Ok.group c.groups.invariant.2 c.in-Ok.ensures.group in (
       tt,
       tt,
-      subst (λ (gs : List Selection). AreGroupsOf c.args.shape (map (λ (piece : Bor (List ℕ)). piece.now) (c.groups.yielded ++ c.in-Some.piece ∷ [])) gs) (sym items)
+      subst (λ (gs : List GroupModel). AreGroupsOf c.args.shape (map (λ (piece : Bor (List ℕ)). piece.now) (c.groups.yielded ++ c.in-Some.piece ∷ [])) gs) (sym items)
           (subst (λ (ts : List (List ℕ)). AreGroupsOf c.args.shape ts (c.groups.groups.items ++ c.in-Ok.group ∷ [])) (sym texts) more),
     )
 

@@ -1,6 +1,6 @@
 use Rattle.std.proofs.Common.{ℕ, ◌≡◌, ◌<◌, ◌≤◌, length}
 use Rattle.std.specs.Prelude.{slice_index}
-use Rattle.board.specs.CostRules.{weight_of}
+use Rattle.board.specs.Weights.{weight_of}
 use Rattle.pattern_graph.proofs.graph.costs_of.Given as goal
 
 abbrev pub invariant-tiles : goal.invariant-tiles

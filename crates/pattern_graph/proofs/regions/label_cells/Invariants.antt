@@ -1,6 +1,6 @@
 use Rattle.std.proofs.Common.{◌≡◌, ℕ, ◌+◌, ◌<◌, cond, false, length, get_or}
 use Rattle.std.specs.Prelude.{sum}
-use Rattle.board.specs.Grids.{cell_count}
+use Rattle.board.specs.Shapes.{cell_count}
 use Rattle.pattern_graph.specs.Numberings.{AreLabels, IsSettled}
 use Rattle.pattern_graph.proofs.regions.label_cells.Given as goal
 

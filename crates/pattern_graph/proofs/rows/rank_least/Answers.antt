@@ -1,6 +1,6 @@
 use Rattle.std.proofs.Common.{[], ap, ◌∙◌, length, arith}
 use Rattle.std.proofs.lemmas.List.FromFn.{length-map-range_with_len}
-use Rattle.board.specs.Grids.{cell_count}
+use Rattle.board.specs.Shapes.{cell_count}
 use Rattle.pattern_graph.proofs.RowLemmas.{least_long, at_place, cells_wide, place_number_within, places_all, value_there}
 use Rattle.pattern_graph.proofs.OrderTables.{pushed}
 use Rattle.pattern_graph.proofs.rows.rank_least.Goals as goal

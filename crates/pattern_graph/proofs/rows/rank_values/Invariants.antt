@@ -1,5 +1,5 @@
 use Rattle.std.proofs.Common.{◌≡◌, length}
-use Rattle.board.specs.Grids.{cell_count}
+use Rattle.board.specs.Shapes.{cell_count}
 use Rattle.pattern_graph.specs.Placements.{node_value}
 use Rattle.pattern_graph.proofs.RowLemmas.{AreRows}
 use Rattle.pattern_graph.proofs.rows.rank_values.Given as goal

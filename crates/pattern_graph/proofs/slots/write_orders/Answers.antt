@@ -1,5 +1,5 @@
 use Rattle.std.proofs.Common.{◌∙◌, ◌+◌, ◌*◌, ◌<◌, ◌≤◌, ap, length, refl, sym, rules, arith}
-use Rattle.board.specs.Grids.{cell_count}
+use Rattle.board.specs.Shapes.{cell_count}
 use Rattle.pattern_graph.proofs.PlacementLemmas.{orders_none, orders_more, orders_all, cells_few, row_low, row_inside, row_room, row_size, row_within, row_ordered, ordered_below, sparse_is, sparse_within}
 use Rattle.pattern_graph.proofs.slots.write_orders.Goals as goal
 

@@ -1,5 +1,5 @@
 use Rattle.std.proofs.Common.{◌∙◌, ◌≡◌, ◌<◌, ap, length, refl, arith}
-use Rattle.board.specs.Grids.{cell_count}
+use Rattle.board.specs.Shapes.{cell_count}
 use Rattle.pattern_index.specs.Laws.{factorial}
 use Rattle.pattern_graph.specs.Sets.{choose}
 use Rattle.pattern_graph.proofs.PlacementLemmas.{sets_more, sets_all, set_front, set_row}

@@ -1,6 +1,6 @@
 use Rattle.std.proofs.Common.{◌<◌, ◌^◌, sym, ap, ◌∙◌, subst}
 use Rattle.std.proofs.lemmas.List.Elements.{recursion_from_All}
-use Rattle.board.specs.Grids.{cell_count}
+use Rattle.board.specs.Shapes.{cell_count}
 use Rattle.pattern_index.specs.Sparse.{sparse_of, digits_in, sparse_in}
 use Rattle.pattern_index.proofs.RankLemmas.{below_in, differ_from_pairs}
 use Rattle.pattern_index.proofs.PlaceLemmas.{place_listing}

@@ -1,6 +1,6 @@
 use Rattle.std.proofs.Common.{take}
 use Rattle.std.specs.Prelude.{All}
-use Rattle.pattern_index.specs.Splits.{ShareNoTile}
+use Rattle.pattern_index.specs.Partitions.{ShareNoTile}
 use Rattle.pattern_index.proofs.partition.is_apart.Given as goal
 
 abbrev pub invariant-groups : goal.invariant-groups

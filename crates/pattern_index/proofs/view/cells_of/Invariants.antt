@@ -1,6 +1,6 @@
 use Rattle.std.proofs.Common.{ℕ, ◌≡◌, ◌<◌, ◌≤◌, length, get_or}
-use Rattle.board.specs.Grids.{cell_count}
-use Rattle.board.specs.Positions.{cell_of}
+use Rattle.board.specs.Shapes.{cell_count}
+use Rattle.board.specs.Boards.{cell_of}
 use Rattle.pattern_index.proofs.view.cells_of.Given as goal
 
 -- the cells of the numbers that were met, and 0 for those that the board doesn't have

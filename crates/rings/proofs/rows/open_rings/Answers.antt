@@ -1,6 +1,6 @@
 use Rattle.std.proofs.Common.{rules, ℕ, arith, ◌≡◌, ◌++◌, ◌∷◌, [], ap, ◌∙◌, length, subst}
 use Rattle.std.proofs.lemmas.List.{map-append, length-map}
-use Rattle.rings.specs.Rings.{Ring, SendingEnd, ReceivingEnd, IsRoomBetween, room_of, out_rings, in_rings, sent_lanes, received_lanes, rings_of_outs, rings_of_ins, sent_rows, received_rows}
+use Rattle.rings.specs.Rings.{Ring, SenderModel, ReceiverModel, IsRoomBetween, room_of, out_rings, in_rings, sent_lanes, received_lanes, rings_of_outs, rings_of_ins, sent_rows, received_rows}
 use Rattle.rings.proofs.GridLemmas.{nil_row, all_nil_rows, as_wide, rows_more, length_end, grid_more, grid_paired, IsGrid}
 use Rattle.rings.proofs.rows.open_rings.Goals as goal
 
@@ -38,8 +38,8 @@ returns g c =
     record {
       paired = grid_paired n (rings_of_outs outs) (rings_of_ins ins) many_outs many_ins (subst (λ (k : ℕ). IsGrid n k (rings_of_outs outs) (rings_of_ins ins)) all inv.2);
       sent = all_nil_rows (sent_rows outs) n n (length-map outs (λ row. sent_lanes row.items) ∙ len_outs)
-          (λ i low. as_wide (λ row. row.items) (λ (out : SendingEnd). out.sent) (λ (out : SendingEnd). out.ring) outs i ∙ inv.2.rows_out i (omega (arith, low))) inv.3;
+          (λ i low. as_wide (λ row. row.items) (λ (out : SenderModel). out.sent) (λ (out : SenderModel). out.ring) outs i ∙ inv.2.rows_out i (omega (arith, low))) inv.3;
       received = all_nil_rows (received_rows ins) n n (length-map ins (λ row. received_lanes row.items) ∙ len_ins)
-          (λ j low. as_wide (λ row. row.items) (λ (into : ReceivingEnd). into.received) (λ (into : ReceivingEnd). into.ring) ins j ∙ (inv.2.rows_in j low ∙ all)) inv.5;
+          (λ j low. as_wide (λ row. row.items) (λ (into : ReceiverModel). into.received) (λ (into : ReceiverModel). into.ring) ins j ∙ (inv.2.rows_in j low ∙ all)) inv.5;
       rooms = inv.4;
     }

@@ -1,6 +1,6 @@
 use Rattle.std.proofs.Common.{rules, ℕ, arith, ◌≡◌, ◌<◌, ◌∷◌, ◌++◌, [], length, ap, sym, ◌∙◌}
 use Rattle.std.proofs.lemmas.List.{get_or-map}
-use Rattle.rings.specs.Rings.{Ring, SendingEnd, IsRoomBetween, room_of, in_rings, received_lanes, rings_of_ins}
+use Rattle.rings.specs.Rings.{Ring, SenderModel, IsRoomBetween, room_of, in_rings, received_lanes, rings_of_ins}
 use Rattle.rings.proofs.GridLemmas.{length_end, row_below, row_above, nil_pushed, nil_rows, each_pushed}
 use Rattle.rings.proofs.rows.open_row.Goals as goal
 
@@ -23,9 +23,9 @@ workers-preserved g c =
     let more = ap length e ∙ length_end outs sender in (
       search rules,
       omega (arith, more, len, c.push.new.items.ok.0),
-      rw e (row_below (λ row. in_rings row.items) (λ (out : SendingEnd). out.ring) xs base outs to x q sender inside len ends.rings inv.2 (inv.3 to (omega arith)) read),
-      row_above (λ row. in_rings row.items) (λ (out : SendingEnd). out.ring) xs base outs to x q sender inside len ends.rings inv.3,
-      rw e (nil_pushed (λ (out : SendingEnd). out.sent) outs sender ends.sent inv.4),
-      rw e (each_pushed (λ (k : ℕ) (ring : Ring). IsRoomBetween c.args.from k (room_of ring)) (λ (out : SendingEnd). out.ring) outs sender inv.5 (rw (len, ends.room) c.room_between.ensures.room)),
+      rw e (row_below (λ row. in_rings row.items) (λ (out : SenderModel). out.ring) xs base outs to x q sender inside len ends.rings inv.2 (inv.3 to (omega arith)) read),
+      row_above (λ row. in_rings row.items) (λ (out : SenderModel). out.ring) xs base outs to x q sender inside len ends.rings inv.3,
+      rw e (nil_pushed (λ (out : SenderModel). out.sent) outs sender ends.sent inv.4),
+      rw e (each_pushed (λ (k : ℕ) (ring : Ring). IsRoomBetween c.args.from k (room_of ring)) (λ (out : SenderModel). out.ring) outs sender inv.5 (rw (len, ends.room) c.room_between.ensures.room)),
       (λ given. nil_rows (λ row. received_lanes row.items) xs to x q inside here ends.received (inv.6 given)),
     )

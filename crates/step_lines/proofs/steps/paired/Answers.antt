@@ -2,13 +2,13 @@ use Rattle.std.proofs.Common.{ℕ, List, ◌∙◌, ap, codes}
 use Rattle.std.proofs.lemmas.Bool.{false≢true}
 use lib.Pointwise.{pointwise}
 use lib.Dec.{eqb}
-use Rattle.step_lines.specs.Steps.{SaysNumber}
+use Rattle.step_lines.specs.Steps.{IsNumberWord}
 use Rattle.step_lines.proofs.StepLemmas.{send_said, deliver_said, none_said}
 use Rattle.step_lines.proofs.steps.paired.Goals as goal
 
 pub returns-in_default : goal.returns-in_default
 returns-in_default c =
-    let unsaid : (n : ℕ) → ¬ SaysNumber c.as_bytes.result.now n = λ n said. c.in_default.not-Some n ((c.number_of.ensures n).1 said) in
+    let unsaid : (n : ℕ) → ¬ IsNumberWord c.as_bytes.result.now n = λ n said. c.in_default.not-Some n ((c.number_of.ensures n).1 said) in
     none_said c.args.verb.now c.args.word.now c.args.worker (λ e. false≢true (c.if-eq.ensures ∙ ap (λ (v : List ℕ). pointwise eqb v (codes "halt")) e)) (rw c.as_bytes.ensures.value at unsaid)
 
 pub returns-in-send : goal.returns-in-send

@@ -1,11 +1,11 @@
 use Rattle.std.proofs.Common.{ℕ, arith}
-use Rattle.step_lines.specs.Steps.{SaysNumber}
+use Rattle.step_lines.specs.Steps.{IsNumberWord}
 use Rattle.step_lines.proofs.StepLemmas.{alone_says, paired_says, two_words, three_words, unsaid, no_bytes, said_by}
 use Rattle.step_lines.proofs.steps.step_in.Goals as goal
 
 pub returns-in_default : goal.returns-in_default
 returns-in_default c =
-    let never : (n : ℕ) → ¬ SaysNumber c.as_bytes.result.now n = λ n said. c.in_default.not-Some n ((c.number_of.ensures n).1 said) in
+    let never : (n : ℕ) → ¬ IsNumberWord c.as_bytes.result.now n = λ n said. c.in_default.not-Some n ((c.number_of.ensures n).1 said) in
     unsaid c.args.text.now c.cut_word.result.1.now c.cut_word-2.result.0.now c.cut_word.ensures.rest c.cut_word-2.ensures.word (rw c.as_bytes.ensures.value at never)
 
 pub returns-then-is_empty : goal.returns-then-is_empty

@@ -1,5 +1,5 @@
 use Rattle.std.proofs.Common.{◌≡◌, ◌*◌, ◌≤◌, take, sum_by}
-use Rattle.pattern_index.specs.Selections.{size_of}
+use Rattle.pattern_index.specs.Groups.{size_of}
 use Rattle.pattern_index.specs.declared.group.TheConstants.{MAX_SIZE}
 use Rattle.table_sets.proofs.building.count_views.Given as goal
 

@@ -2,7 +2,7 @@ use Rattle.std.proofs.Common.{◌≡◌, ℕ, ◌<◌, Option, Some, None, sym, 
 use Rattle.std.specs.Ordering.{nat_cmp}
 use Rattle.outcomes.specs.Outcomes.{Task}
 use Rattle.closed_table.specs.Tables.{empty_table}
-use Rattle.search_lists.specs.Lists.{empty_lists, Lists}
+use Rattle.search_lists.specs.Lists.{empty_lists, SearchListsModel}
 use Rattle.search_lists.specs.Orders.{Guide, IsInOrder}
 use Rattle.world_model.specs.declared.parts.Known.{Known}
 use Rattle.world_model.specs.Knowledge.{Knowledge}
@@ -40,6 +40,6 @@ returns g c =
       record {
         guides = c.tasks_have_guides.ensures task c.shape.ensures.board;
         order = subst (IsInOrder guide) (sym none) (empty_order guide);
-        boards = subst (λ (s : Lists). AreTaskBoards task s.closed) (sym none) (empty_boards task);
+        boards = subst (λ (s : SearchListsModel). AreTaskBoards task s.closed) (sym none) (empty_boards task);
       },
     )

@@ -1,6 +1,6 @@
 use Rattle.std.proofs.Common.{rules, arith, ◌≡◌, ◌∷◌, [], List, subst, sym, refl}
 use Rattle.std.specs.Vec.Iter.{into_iter_items}
-use Rattle.thread_parts.specs.Parts.{Face}
+use Rattle.thread_parts.specs.Parts.{SealedModel}
 use Rattle.thread_joins.proofs.TakenLemmas.{nothing, AreTaken, none_taken, taken_same, taken_more, all_taken}
 use Rattle.thread_joins.proofs.apart.take_apart.Goals as goal
 
@@ -32,7 +32,7 @@ parts-preserved g c =
     let it = c.open-worker.result in
     let next = into_iter_items c.next.new.self in
     let rest : into_iter_items c.parts.one-iterator ≡ one ∷ next = search rules in
-    let here = subst (λ (fs : List (Face g.row.S.Denot)). AreTaken owner_of n faces fs c.parts.workers.items c.parts.outs.items c.parts.ins.items) rest inv.taken in
+    let here = subst (λ (fs : List (SealedModel g.row.S.Denot)). AreTaken owner_of n faces fs c.parts.workers.items c.parts.outs.items c.parts.ins.items) rest inv.taken in
     let more = taken_more owner_of n faces next c.parts.workers.items c.parts.outs.items c.parts.ins.items one here it c.open-worker.ensures.holds c.open-worker.ensures.face in
     record {
       next = tt;
@@ -55,4 +55,4 @@ returns g c = λ p owners joint.
     let l = c.in-None.ensures.steps.0 in
     let none : into_iter_items c.parts.one-iterator ≡ [] = nothing (into_iter_items c.parts.one-iterator) (omega (arith, l, c.parts.one-iterator.rest.ok.0)) in
     all_taken owner_of n faces (record { workers = c.parts.workers; outs = c.parts.outs; ins = c.parts.ins })
-    (subst (λ (fs : List (Face g.row.S.Denot)). AreTaken owner_of n faces fs c.parts.workers.items c.parts.outs.items c.parts.ins.items) none c.parts.invariant.taken) p owners joint
+    (subst (λ (fs : List (SealedModel g.row.S.Denot)). AreTaken owner_of n faces fs c.parts.workers.items c.parts.outs.items c.parts.ins.items) none c.parts.invariant.taken) p owners joint

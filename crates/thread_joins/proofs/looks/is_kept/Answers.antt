@@ -5,7 +5,7 @@ use Rattle.world_model.specs.declared.steps.Stop.TheVariants.{Quiet, Limit, Memo
 use Rattle.world_model.specs.Books.{BookState}
 use Rattle.worker_core.specs.Workers.{state_of}
 use Rattle.world_ends.specs.Parts.{states_of}
-use Rattle.hda_run.specs.Problems.{task_in}
+use Rattle.hda_run.specs.Jobs.{task_in}
 use Rattle.thread_joins.proofs.WorldLemmas.{kept_at, kept_quiet, kept_limit}
 use Rattle.thread_joins.proofs.looks.is_kept.Goals as goal
 

@@ -3,7 +3,7 @@ use Rattle.std.specs.Prelude.{◌↔◌, All, IsTrue}
 use Rattle.world_model.specs.Workers.{HasNothingBelow}
 use Rattle.worker_core.specs.Roles.{guide_of}
 use Rattle.world_ends.specs.Parts.{states_of}
-use Rattle.hda_run.specs.Problems.{task_in}
+use Rattle.hda_run.specs.Jobs.{task_in}
 use Rattle.thread_joins.proofs.looks.is_quiet.Goals as goal
 
 pub returns-clause-quiet : goal.returns-clause-quiet

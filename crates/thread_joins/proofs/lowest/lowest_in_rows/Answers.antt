@@ -4,7 +4,7 @@ use Rattle.std.specs.declared.alloc.Global.{Global}
 use Rattle.std.specs.Vec.Iter.{into_iter_items}
 use Rattle.lower_bound.specs.Bounds.{sum_of}
 use Rattle.lower_bound.specs.Tables.{parts_of}
-use Rattle.rings.specs.Rings.{ReceivingEnd}
+use Rattle.rings.specs.Rings.{ReceiverModel}
 use Rattle.thread_joins.specs.Lanes.{IsLeftInRow}
 use Rattle.thread_joins.proofs.WorldLemmas.{so_far_none, so_far_more, so_far_all, so_far_next}
 use Rattle.thread_joins.proofs.TakenLemmas.{nothing}
@@ -17,7 +17,7 @@ receivers-init g c =
     record {
       next = tt;
       ends = tt;
-      least = so_far_none (λ (row : Vec ReceivingEnd Global). IsLeftInRow (sum_of (parts_of c.args.bound.now)) row.items) c.args.rows.items c.args.lowest all rest;
+      least = so_far_none (λ (row : Vec ReceiverModel Global). IsLeftInRow (sum_of (parts_of c.args.bound.now)) row.items) c.args.rows.items c.args.lowest all rest;
     }
 
 pub lowest_in_row-least-requires-after_bounds : goal.lowest_in_row-least-requires-after_bounds
@@ -26,7 +26,7 @@ lowest_in_row-least-requires-after_bounds g c κs within =
     let before = into_iter_items c.receivers.row-iterator in
     let next = into_iter_items c.next.new.self in
     let first : before ≡ here ∷ next = search rules in
-    let has = so_far_next (λ (row : Vec ReceivingEnd Global). IsLeftInRow (sum_of (parts_of c.args.bound.now)) row.items) c.args.rows.items c.args.lowest here before next c.receivers.least first c.receivers.invariant.least in
+    let has = so_far_next (λ (row : Vec ReceiverModel Global). IsLeftInRow (sum_of (parts_of c.args.bound.now)) row.items) c.args.rows.items c.args.lowest here before next c.receivers.least first c.receivers.invariant.least in
     λ it packet stands lies. c.requires here it packet has stands lies
 
 pub receivers-preserved : goal.receivers-preserved
@@ -38,7 +38,7 @@ receivers-preserved g c =
     record {
       next = tt;
       ends = tt;
-      least = so_far_more (λ (row : Vec ReceivingEnd Global). IsLeftInRow (sum_of (parts_of c.args.bound.now)) row.items) c.args.rows.items c.args.lowest here before next c.receivers.least c.lowest_in_row-least.result first c.receivers.invariant.least c.lowest_in_row-least.ensures;
+      least = so_far_more (λ (row : Vec ReceiverModel Global). IsLeftInRow (sum_of (parts_of c.args.bound.now)) row.items) c.args.rows.items c.args.lowest here before next c.receivers.least c.lowest_in_row-least.result first c.receivers.invariant.least c.lowest_in_row-least.ensures;
     }
 
 pub returns : goal.returns
@@ -46,4 +46,4 @@ returns g c =
     let before = into_iter_items c.receivers.row-iterator in
     let l = c.in-None.ensures.steps.0 in
     let none : length before ≡ 0 = omega (arith, l, c.receivers.row-iterator.rest.ok.0) in
-    so_far_all (λ (row : Vec ReceivingEnd Global). IsLeftInRow (sum_of (parts_of c.args.bound.now)) row.items) c.args.rows.items c.args.lowest before c.receivers.least (nothing before none) c.receivers.invariant.least
+    so_far_all (λ (row : Vec ReceiverModel Global). IsLeftInRow (sum_of (parts_of c.args.bound.now)) row.items) c.args.rows.items c.args.lowest before c.receivers.least (nothing before none) c.receivers.invariant.least

@@ -5,7 +5,7 @@ use Rattle.std.proofs.lemmas.Bool.Decides.{eqb_tells}
 use Rattle.std.proofs.lemmas.List.{length-map}
 use Rattle.std.proofs.lemmas.List.Elements.{All-set}
 use Rattle.std.proofs.lemmas.Option.{slice_get-get_or}
-use Rattle.search_lists.specs.Lists.{Lists}
+use Rattle.search_lists.specs.Lists.{SearchListsModel}
 use Rattle.world_model.specs.Books.{BookState}
 use Rattle.world_model.specs.Workers.{WorkerState}
 use Rattle.worker_core.specs.Roles.{IsGuided}
@@ -30,7 +30,7 @@ workers-preserved g c =
       same = map-set_same state_of xs i c.audit.new.self d e.state ∙ inv.same;
       guided = λ task guide is.
           let before = inv.guided task guide is in
-          All-set (λ worker. IsGuided task guide worker.lists) xs i c.audit.new.self (subst (λ (l : Lists). IsGuided task guide l) (sym e.keeps.lists) (before i d within)) before;
+          All-set (λ worker. IsGuided task guide worker.lists) xs i c.audit.new.self (subst (λ (l : SearchListsModel). IsGuided task guide l) (sym e.keeps.lists) (before i d within)) before;
       bound = λ k worker low here. elim (eqb_tells k i) [
         | inl p ↦ (
             let same : state_of (get_or xs i d) ≡ worker = some_is (state_of (get_or xs i d)) worker (sym at ∙ (ap (slice_get states) (sym p.1) ∙ here)) in

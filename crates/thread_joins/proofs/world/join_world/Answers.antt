@@ -9,8 +9,8 @@ use Rattle.world_model.specs.declared.steps.Stop.TheVariants.{Quiet}
 use Rattle.world_model.specs.Books.{BookState}
 use Rattle.thread_model.specs.Joined.{world_with}
 use Rattle.worker_core.specs.Roles.{guide_of}
-use Rattle.world_ends.specs.Parts.{AreGuided, states_of}
-use Rattle.hda_run.specs.Problems.{task_in}
+use Rattle.world_ends.specs.Parts.{AreWorkersGuided, states_of}
+use Rattle.hda_run.specs.Jobs.{task_in}
 use Rattle.thread_joins.specs.declared.apart.Joined.{Joined}
 use Rattle.thread_joins.specs.Lanes.{by_sender}
 use Rattle.thread_joins.specs.Worlds.{parts_in, shared_by}
@@ -42,9 +42,9 @@ returns-clause-world g c = λ p owners joint.
     let e = ap (λ (ws : List WorkerState). length ws) states in
     omega (arith, e, length-map c.audit_all.new.workers (λ worker. state_of worker), length-map old.workers.items (λ worker. state_of worker), old.workers.ok.0) in
     let items : new.workers.items ≡ c.audit_all.new.workers = with_items_is old.workers c.audit_all.new.workers len in
-    let guided : AreGuided (task_in p) (guide_of (task_in p)) new.workers.items =
-    subst (λ ws. AreGuided (task_in p) (guide_of (task_in p)) ws) (sym items)
-    (audit.guided (task_in p) (guide_of (task_in p)) (subst (λ ws. AreGuided (task_in p) (guide_of (task_in p)) ws) (sym value) apart.guided)) in
+    let guided : AreWorkersGuided (task_in p) (guide_of (task_in p)) new.workers.items =
+    subst (λ ws. AreWorkersGuided (task_in p) (guide_of (task_in p)) ws) (sym items)
+    (audit.guided (task_in p) (guide_of (task_in p)) (subst (λ ws. AreWorkersGuided (task_in p) (guide_of (task_in p)) ws) (sym value) apart.guided)) in
     let after : c.audit_all.new.book ≡ before = audit.book ∙ e.book in
     let bound : All (λ worker. worker.purse ≤ before.credit) (states_of new.workers.items) =
     subst (λ ws. All (λ worker. worker.purse ≤ before.credit) ws) (sym (ap (λ ws. states_of ws) items ∙ audit.same))

@@ -5,7 +5,7 @@ use Rattle.worker_core.specs.Roles.{guide_of}
 use Rattle.worker_core.specs.Serving.{StaysGuided}
 use Rattle.worker_core.specs.Workers.{state_of}
 use Rattle.worker_core.proofs.GuideLemmas.{stays_guided}
-use Rattle.hda_run.specs.Problems.{task_in}
+use Rattle.hda_run.specs.Jobs.{task_in}
 use Rattle.thread_parts.proofs.PartLemmas.{first_is}
 use Rattle.thread_parts.proofs.opening.open_worker.Goals as goal
 

@@ -1,7 +1,7 @@
 use Rattle.std.proofs.Common.{rules, arith, ◌≡◌, ◌++◌, ◌∷◌, [], Vec, sym, ◌∙◌, Some, length, replicate}
 use Rattle.std.specs.Prelude.{slice_get, slice_index_or}
 use Rattle.std.specs.declared.alloc.Global.{Global}
-use Rattle.rings.specs.Rings.{SendingEnd, ReceivingEnd, out_rings, in_rings, sent_lanes, received_lanes, rings_of_outs, rings_of_ins}
+use Rattle.rings.specs.Rings.{SenderModel, ReceiverModel, out_rings, in_rings, sent_lanes, received_lanes, rings_of_outs, rings_of_ins}
 use Rattle.thread_parts.specs.Parts.{face}
 use Rattle.thread_runs.proofs.OpeningLemmas.{each_more, row_is, row_same, IsFace, joint_of}
 use Rattle.thread_runs.proofs.opening.open_parts.Goals as goal
@@ -12,7 +12,7 @@ open_part-requires-clause-sent g c κs within =
     let n = c.args.search.now.workers in
     let row = c.take_row-to_each.result in
     let at : slice_get c.args.rings.outs.items me ≡ Some row = sym (c.workers.invariant.later_outs me (omega arith)) ∙ c.take_row-to_each.ensures.row in
-    row_same (λ (v : Vec SendingEnd Global). sent_lanes v.items) c.args.rings.outs.items me row at n (replicate n []) c.requires.rings.sent
+    row_same (λ (v : Vec SenderModel Global). sent_lanes v.items) c.args.rings.outs.items me row at n (replicate n []) c.requires.rings.sent
 
 pub open_part-requires-clause-received : goal.open_part-requires-clause-received
 open_part-requires-clause-received g c κs within =
@@ -20,7 +20,7 @@ open_part-requires-clause-received g c κs within =
     let n = c.args.search.now.workers in
     let row = c.take_row-from_each.result in
     let at : slice_get c.args.rings.ins.items me ≡ Some row = sym (c.workers.invariant.later_ins me (omega arith)) ∙ c.take_row-from_each.ensures.row in
-    row_same (λ (v : Vec ReceivingEnd Global). received_lanes v.items) c.args.rings.ins.items me row at n (replicate n []) c.requires.rings.received
+    row_same (λ (v : Vec ReceiverModel Global). received_lanes v.items) c.args.rings.ins.items me row at n (replicate n []) c.requires.rings.received
 
 pub workers-preserved : goal.workers-preserved
 workers-preserved g c =
@@ -37,8 +37,8 @@ workers-preserved g c =
     let at_in : slice_get rings.ins.items me ≡ Some into = sym (inv.later_ins me (omega arith)) ∙ c.take_row-from_each.ensures.row in
     let e : c.push_reserved.new.self.items ≡ parts ++ part ∷ [] = search rules in
     let len : length parts ≡ me = search rules in
-    let outs_are : slice_index_or (rings_of_outs rings.outs.items) me [] ≡ out_rings out.items = row_is (λ (v : Vec SendingEnd Global). out_rings v.items) rings.outs.items me out at_out [] in
-    let ins_are : slice_index_or (rings_of_ins rings.ins.items) me [] ≡ in_rings into.items = row_is (λ (v : Vec ReceivingEnd Global). in_rings v.items) rings.ins.items me into at_in [] in
+    let outs_are : slice_index_or (rings_of_outs rings.outs.items) me [] ≡ out_rings out.items = row_is (λ (v : Vec SenderModel Global). out_rings v.items) rings.outs.items me out at_out [] in
+    let ins_are : slice_index_or (rings_of_ins rings.ins.items) me [] ≡ in_rings into.items = row_is (λ (v : Vec ReceiverModel Global). in_rings v.items) rings.ins.items me into at_in [] in
     let is : IsFace p owners (rings_of_outs rings.outs.items) (rings_of_ins rings.ins.items) me part = c.in_ok-part.ensures ∙ (λ t. face p owners me (sym outs_are t) (sym ins_are t)) in
     record {
       count = search rules;

@@ -1,5 +1,5 @@
 use Rattle.std.proofs.Common.{Ok}
-use Rattle.hda_run.specs.Problems.{task_in}
+use Rattle.hda_run.specs.Jobs.{task_in}
 use Rattle.hda_run.proofs.LawLemmas.{not_apart, parity_answers, parity_differs, parity_whole}
 use Rattle.thread_runs.proofs.solving.search_by_workers.Goals as goal
 

@@ -1,5 +1,5 @@
 use Rattle.std.proofs.Common.{◌≡◌}
-use Rattle.thread_parts.specs.Parts.{Holds, face_of}
+use Rattle.thread_parts.specs.Parts.{IsSoundPart, face_of}
 use Rattle.thread_work.proofs.rounds.work.Given as goal
 
 abbrev pub invariant-rounds : goal.invariant-rounds
@@ -7,4 +7,4 @@ invariant-rounds g l =
     (goal.iterator-rounds g).can_next l.iterator'
     × (goal.iterator-rounds g).is_finite l.iterator'
     × (face_of l.part ≡ l.fn.sealed)
-    × Holds g.S.Spread.owner_of g.C.Tokens.workers l.part
+    × IsSoundPart g.S.Spread.owner_of g.C.Tokens.workers l.part

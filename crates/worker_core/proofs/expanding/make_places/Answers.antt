@@ -1,6 +1,6 @@
 use Rattle.std.proofs.Common.{rules, ◌≡◌, ◌≢◌, ◌≤◌, ◌∙◌, sym, subst, arith}
 use Rattle.open_buckets.specs.declared.open.TheConstants.{GREATEST_F}
-use Rattle.search_lists.specs.Lists.{Lists}
+use Rattle.search_lists.specs.Lists.{SearchListsModel}
 use Rattle.worker_core.specs.Expanding.{HasAllPlaces, HasPlaces}
 use Rattle.worker_core.proofs.ExpandLemmas.{entry_has, more_room, places_on, places_for_all, still_wanting, same_elsewhere}
 use Rattle.std.specs.Prelude.{OnErr, Result, Ok, Err}
@@ -33,7 +33,7 @@ offers-preserved c =
           let size = c.len-place-end.ensures.value in
           let within = c.offers-test.true in
           let here = entry_has (HasPlaces c.args.me c.args.lists.now) c.args.offers.now c.offers.place c.entry.result c.entry.ensures (omega (arith, size, within)) all.1 in
-          c.in_ok-make_places_at.ensures.makes.enough (subst (λ (lists : Lists). HasPlaces c.args.me lists c.entry.result.1) (sym as_before) here) ∙ as_before;
+          c.in_ok-make_places_at.ensures.makes.enough (subst (λ (lists : SearchListsModel). HasPlaces c.args.me lists c.entry.result.1) (sym as_before) here) ∙ as_before;
       others = λ h apart.
           let size = c.len-place-end.ensures.value in
           let within = c.offers-test.true in

@@ -2,9 +2,9 @@ use Rattle.std.proofs.Common.{rules, ◌≡◌, ◌+◌, ℕ, true, arith, sym, 
 use Rattle.std.specs.Prelude.{OnErr, Result, Ok, Err}
 use Rattle.std.specs.FinMap as map
 use Rattle.search_keys.specs.SearchKeys.{search_key}
-use Rattle.board.specs.Positions.{Position, IsBoard}
+use Rattle.board.specs.Boards.{BoardModel, IsBoard}
 use Rattle.lower_bound.specs.Bounds.{sum_of}
-use Rattle.lower_bound.specs.Tables.{Tables, parts_of}
+use Rattle.lower_bound.specs.Tables.{BoundModel, parts_of}
 use Rattle.world_model.specs.Knowledge.{Knowledge, is_news}
 use Rattle.search_lists.proofs.OrderLemmas.{order_with_room}
 use Rattle.worker_core.specs.Contexts.{ContextModel}
@@ -29,7 +29,7 @@ returns-in_err-make_place-clause-refused g c =
     let item = c.args.item.now in
     let lists = c.args.lists.now in
     let tables_are : c.context.inside.bound.now ≡ c.args.context.now.tables = ap (λ (x : ContextModel g.row.S.Denot). x.tables) c.context.view_is in
-    let sum : c.of_keyed.result ≡ sum_of (parts_of c.args.context.now.tables) item.board = c.of_keyed.ensures.value ∙ ap (λ (x : Tables). sum_of (parts_of x) item.board) tables_are in
+    let sum : c.of_keyed.result ≡ sum_of (parts_of c.args.context.now.tables) item.board = c.of_keyed.ensures.value ∙ ap (λ (x : BoundModel). sum_of (parts_of x) item.board) tables_are in
     let yes : c.brings_news.result ≡ true = search rules in
     let key : c.key-key.result ≡ search_key item.board = c.key-key.ensures.value in
     after_err c.from_residual.result (record {
@@ -59,10 +59,10 @@ returns-clause-lists g c =
           let low = c.requires.cost in
           let high = c.of_keyed.ensures.high in
           let before = order_with_room guide c.args.lists.now c.make_place.new.lists c.make_place.ensures.same order in
-          let sum : c.of_keyed.result ≡ guide.sum c.key-key.result = c.of_keyed.ensures.value ∙ ap (λ (x : Tables). sum_of (parts_of x) item.board) tables_are ∙ sym (leads.sums item.board (board, c.requires.board)) ∙ ap guide.sum (sym key) in
+          let sum : c.of_keyed.result ≡ guide.sum c.key-key.result = c.of_keyed.ensures.value ∙ ap (λ (x : BoundModel). sum_of (parts_of x) item.board) tables_are ∙ sym (leads.sums item.board (board, c.requires.board)) ∙ ap guide.sum (sym key) in
           c.relax.ensures.order guide (leads.ends ∙ ap search_key (sym goal_is) ∙ sym c.key.ensures.value) (record { adds = ap (λ (n : ℕ). item.cost + n) sum; within = omega (arith, low, high) }) before;
       boards = λ task ends boards.
           let before : AreTaskBoards task made = λ key known at. boards key known (ap (λ (m : Knowledge). map.get m key) (sym c.make_place.ensures.same.known) ∙ at) in
-          let sides = c.requires.board ∙ ap (λ (b : Position). b.grid) (sym ends) in
+          let sides = c.requires.board ∙ ap (λ (b : BoardModel). b.grid) (sym ends) in
           subst (AreTaskBoards task) (sym c.relax.ensures.closed) (relaxed_boards task made.known before c.key-key.result (item.board, (board, sides), sym key) item.cost item.via);
     }

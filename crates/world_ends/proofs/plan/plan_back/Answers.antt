@@ -2,7 +2,7 @@ use Rattle.std.proofs.Common.{◌≡◌, ◌+◌, List, [], ◌∷◌, sym, ap, 
 use Rattle.std.specs.Prelude.{reverse}
 use Rattle.std.proofs.lemmas.List.{reverse-append}
 use Rattle.board.specs.declared.moves.Move.{Move}
-use Rattle.board.specs.Positions.{Position}
+use Rattle.board.specs.Boards.{BoardModel}
 use Rattle.board.specs.Plans.{Leads}
 use Rattle.world_model.specs.Worlds.{WorldState}
 use Rattle.world_model.specs.Outcomes.{IsByLastMoves}
@@ -45,7 +45,7 @@ returns g c =
     let start : c.boards.board ≡ c.args.asked.now.start = same_as c.boards.board c.args.asked.now.start (sym c.boards-test.false ∙ c.ne.ensures) in
     let is = c.reverse.ensures.items in
     record {
-      leads = subst (λ (ms : List Move). Leads c.args.asked.now.weights c.args.asked.now.start ms c.args.asked.now.goal c.boards.cost) (sym is) (subst (λ (b : Position). Leads c.args.asked.now.weights b (reverse c.boards.backwards.items) c.args.asked.now.goal c.boards.cost) start now.leads);
+      leads = subst (λ (ms : List Move). Leads c.args.asked.now.weights c.args.asked.now.start ms c.args.asked.now.goal c.boards.cost) (sym is) (subst (λ (b : BoardModel). Leads c.args.asked.now.weights b (reverse c.boards.backwards.items) c.args.asked.now.goal c.boards.cost) start now.leads);
       within = omega (arith, now.within);
-      traced = λ w parts. subst (λ (ms : List Move). IsByLastMoves w c.args.asked.now.start ms c.args.asked.now.goal) (sym is) (subst (λ (b : Position). IsByLastMoves w b (reverse c.boards.backwards.items) c.args.asked.now.goal) start (now.traced w parts));
+      traced = λ w parts. subst (λ (ms : List Move). IsByLastMoves w c.args.asked.now.start ms c.args.asked.now.goal) (sym is) (subst (λ (b : BoardModel). IsByLastMoves w b (reverse c.boards.backwards.items) c.args.asked.now.goal) start (now.traced w parts));
     }

@@ -1,6 +1,6 @@
 use Rattle.std.proofs.Common.{◌≡◌, ℕ, refl, sym, ap, ◌∙◌, subst, Option, Some, arith}
 use Rattle.std.specs.Prelude.{unwrap_or}
-use Rattle.board.specs.Positions.{Position}
+use Rattle.board.specs.Boards.{BoardModel}
 use Rattle.board.specs.Moves.{Moves}
 use Rattle.world_model.specs.declared.parts.Known.{Known}
 use Rattle.world_model.specs.Workers.{IsTaskBoard}
@@ -33,10 +33,10 @@ returns-clause-before g c =
     let at = known_in (g.S.Spread.owner_of c.args.owners.now) (states_of c.args.workers.now) in
     let there : c.known_of.result ≡ Some has.2 = found_before at c.known_of.result c.unwrap-before.result (has.0, has.1) has.2 c.known_of.ensures same has.3.known in
     let cost : c.unwrap-there.result.cost ≡ has.2.cost = ap (λ (o : Option Known). (unwrap_or o has.2).cost) (sym c.unwrap-there.ensures ∙ there) in
-    let paid : c.unwrap-before.result.1 ≡ has.1 = ap (λ (p : Position × ℕ). p.1) same in
+    let paid : c.unwrap-before.result.1 ≡ has.1 = ap (λ (p : BoardModel × ℕ). p.1) same in
     record {
-      board = subst (λ (p : Position × ℕ). IsTaskBoard (task_in c.args.asked.now) p.0) (sym same) has.3.board;
-      moves = subst (λ (p : Position × ℕ). Moves c.args.asked.now.weights p.0 c.args.here.via c.args.board.now p.1) (sym same) has.3.moves;
+      board = subst (λ (p : BoardModel × ℕ). IsTaskBoard (task_in c.args.asked.now) p.0) (sym same) has.3.board;
+      moves = subst (λ (p : BoardModel × ℕ). Moves c.args.asked.now.weights p.0 c.args.here.via c.args.board.now p.1) (sym same) has.3.moves;
       known = known_by_answer c.known_of.result (at c.unwrap-before.result.0) c.unwrap-there.result c.known_of.ensures c.unwrap-there.ensures;
       cheaper = omega (arith, cost, paid, has.3.cheaper);
     }

@@ -1,6 +1,6 @@
 use Rattle.std.proofs.Common.{rules, ◌≡◌, ℕ, ◌+◌, ◌<◌, ◌≤◌, length, sym, subst, ⊎_elim}
 use Rattle.std.proofs.lemmas.Bool.{cases_lt}
-use Rattle.board.specs.Grids.{Grid}
+use Rattle.board.specs.Shapes.{ShapeModel}
 use Rattle.search_keys.specs.SearchKeys.{HasSearchKey}
 use Rattle.world_ends.specs.Parts.{task_in}
 use Rattle.world_ends.proofs.RowLemmas.{AreRowsUpTo, read_at, row_left_out, row_added, all_rows_in}
@@ -18,7 +18,7 @@ boards-preserved c =
     let known = c.at-key.result.1 in
     let board = c.board-board.result in
     let within : c.boards.place < length c.args.lists.now.closed.keys = search rules in
-    let read : HasSearchKey task.goal.grid key c.of_key.result = subst (λ (grid : Grid). HasSearchKey grid key c.of_key.result) c.shape.ensures.value c.of_key.ensures in
+    let read : HasSearchKey task.goal.grid key c.of_key.result = subst (λ (grid : ShapeModel). HasSearchKey grid key c.of_key.result) c.shape.ensures.value c.of_key.ensures in
     let has : HasSearchKey task.goal.grid key board = subst (HasSearchKey task.goal.grid key) (sym c.board-board.ensures.value) read in
     let here = read_at task.goal.grid closed n key board known within c.at-key.ensures.key c.at-key.ensures.known has in
     let did = c.in_ok-add_row.ensures in

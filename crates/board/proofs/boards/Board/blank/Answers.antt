@@ -1,5 +1,5 @@
 use Rattle.std.proofs.Common.{◌≡◌, refl}
-use Rattle.board.specs.Positions.{blank_of}
+use Rattle.board.specs.Boards.{blank_of}
 use Rattle.board.specs.Storage.{position_in}
 use Rattle.board.proofs.StepLemmas.{blank_found, blank_stands, blank_holds}
 use Rattle.board.proofs.boards.Board.blank.Goals as goal

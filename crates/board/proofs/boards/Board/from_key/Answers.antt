@@ -1,5 +1,5 @@
 use Rattle.std.proofs.Common.{ap, sym, ◌∙◌, subst}
-use Rattle.board.specs.Positions.{IsBoard}
+use Rattle.board.specs.Boards.{IsBoard}
 use Rattle.board.specs.Keys.{key_of}
 use Rattle.board.proofs.KeyLemmas.{read_back}
 use Rattle.board.proofs.boards.Board.from_key.Goals as goal

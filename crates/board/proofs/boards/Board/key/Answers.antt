@@ -1,11 +1,11 @@
 use Rattle.std.proofs.Common.{◌≡◌, ◌<◌, ◌^◌, ℕ, List, arith, length, take}
-use Rattle.board.specs.Positions.{Position, IsBoard}
+use Rattle.board.specs.Boards.{BoardModel, IsBoard}
 use Rattle.board.specs.Keys.{packed_number}
 use Rattle.board.proofs.KeyLemmas.{packed_number-more, key_fits}
 use Rattle.board.proofs.boards.Board.key.Goals as goal
 
 -- the tiles read before another one leave room for it
-room : (b : Position) (tiles : List ℕ) (i : ℕ) → IsBoard b → tiles ≡ b.tiles → i < length tiles → packed_number (take i tiles) < 2 ^ 120
+room : (b : BoardModel) (tiles : List ℕ) (i : ℕ) → IsBoard b → tiles ≡ b.tiles → i < length tiles → packed_number (take i tiles) < 2 ^ 120
 room b tiles i board same before =
     let inside : i < length b.tiles = rw same at before in
     rw same (key_fits b i board (omega (arith, board.one_each)))

@@ -1,6 +1,6 @@
 use Rattle.std.proofs.Common.{ℕ, refl, sym, ap, ◌∙◌, subst}
-use Rattle.board.specs.Grids.{cell_count}
-use Rattle.board.specs.Positions.{IsBoard}
+use Rattle.board.specs.Shapes.{cell_count}
+use Rattle.board.specs.Boards.{IsBoard}
 use Rattle.board.specs.Keys.{key_of}
 use Rattle.board.specs.Padding.{IsPadded}
 use Rattle.board.proofs.KeyLemmas.{read_back}

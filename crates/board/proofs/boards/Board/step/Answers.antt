@@ -1,7 +1,7 @@
 use Rattle.std.proofs.Common.{◌≡◌, ◌≢◌, ℕ, sym, ◌∙◌, ap, subst}
 use Rattle.std.proofs.lemmas.List.{get_or-take}
-use Rattle.board.specs.Grids.{cell_count}
-use Rattle.board.specs.Positions.{Position, IsBoard, blank_of}
+use Rattle.board.specs.Shapes.{cell_count}
+use Rattle.board.specs.Boards.{BoardModel, IsBoard, blank_of}
 use Rattle.board.specs.Storage.{position_in}
 use Rattle.board.specs.declared.boards.Board.TheInside.{Inside}
 use Rattle.board.proofs.MoveLemmas.{cell_below, other_cell}
@@ -9,7 +9,7 @@ use Rattle.board.proofs.StepLemmas.{tile_above, tile_below, stored_after, board_
 use Rattle.board.proofs.boards.Board.step.Goals as goal
 
 -- the blank's cell, by what lies in memory
-from_is : (inside : Inside) (b : Position) (from : ℕ) → position_in inside ≡ b → from ≡ blank_of b → from ≡ blank_of (position_in inside)
+from_is : (inside : Inside) (b : BoardModel) (from : ℕ) → position_in inside ≡ b → from ≡ blank_of b → from ≡ blank_of (position_in inside)
 from_is inside b from view at = at ∙ ap blank_of (sym view)
 
 pub of-requires-clause-tile : goal.of-requires-clause-tile
@@ -25,7 +25,7 @@ of-requires-clause-within c =
     let lies = (c.neighbour.ensures.towards c.in_ok-to.to).0 c.in_ok-to.was in
     let within = cell_below c.self.inside.shape c.args.direction c.blank-from.result c.in_ok-to.to lies in
     let low = tile_below (position_in c.self.inside) c.in_ok-to.to c.self.invariant.board within in
-    let same : c.args.weights.now.grid ≡ c.self.inside.shape = c.requires ∙ ap (λ (p : Position). p.grid) (sym c.self.view_is) in
+    let same : c.args.weights.now.grid ≡ c.self.inside.shape = c.requires ∙ ap (λ (p : BoardModel). p.grid) (sym c.self.view_is) in
     rw (same, ← get_or-take (cell_count c.self.inside.shape) c.self.inside.tiles c.in_ok-to.to 0 within) low
 
 pub invariant_of-board : goal.invariant_of-board

@@ -2,7 +2,7 @@ use Rattle.std.proofs.Common.{◌≡◌, ◌<◌, ◌+◌, ◌-◌, ◌∙◌, �
 use Rattle.std.specs.Prelude.{slice_get}
 use Rattle.std.specs.FinMap as map
 use Rattle.world_model.specs.declared.parts.Known.{Known}
-use Rattle.closed_table.specs.Tables.{Table, relaxation_answer}
+use Rattle.closed_table.specs.Tables.{ClosedModel, relaxation_answer}
 use Rattle.closed_table.specs.Chains.{row_of, rows_of}
 use Rattle.closed_table.proofs.CountLemmas.{count_le}
 use Rattle.closed_table.proofs.SlotLemmas.{none_known, has_room, listed_there, known_there, sound_there, table_there}
@@ -56,7 +56,7 @@ returns-in_default-clause-table c =
     let none = none_known c.self.inside c.self.invariant c.args.self.now c.self.view_is c.args.key c.in_default.ensures in
     let entry : Known = met_at c.args.cost c.args.via in
     pushed (rows_of s.slots s.len) (rows_of c.add.new.index.slots c.add.new.index.len) c.args.key (c.self.inside.room - 1) entry c.add.ensures.rows (unknown s.slots s.len c.self.invariant.indexed.in_slots c.args.key c.in_default.ensures)
-    ∙ ap (λ (t : Table). record { keys = t.keys ++ c.args.key ∷ []; known = map.insert t.known c.args.key entry; room = t.room - 1 }) c.self.view_is
+    ∙ ap (λ (t : ClosedModel). record { keys = t.keys ++ c.args.key ∷ []; known = map.insert t.known c.args.key entry; room = t.room - 1 }) c.self.view_is
     ∙ sym (table_new c.args.self.now c.args.key c.args.cost c.args.via none)
 
 pub returns-then-slot-cost-clause-answer : goal.returns-then-slot-cost-clause-answer
@@ -81,7 +81,7 @@ returns-clause-table c =
 
 pub returns-clause-place : goal.returns-clause-place
 returns-clause-place c =
-    ap (λ (t : Table). slice_get t.keys c.in-Some.place) (table_there c.self.inside c.self.invariant c.args.self.now c.self.view_is c.args.key c.in-Some.place c.in-Some.ensures.0 c.in-Some.ensures.1 c.at_mut-slot.result.now c.at_mut-slot.ensures.value (met_at c.args.cost c.args.via) _ refl)
+    ap (λ (t : ClosedModel). slice_get t.keys c.in-Some.place) (table_there c.self.inside c.self.invariant c.args.self.now c.self.view_is c.args.key c.in-Some.place c.in-Some.ensures.0 c.in-Some.ensures.1 c.at_mut-slot.result.now c.at_mut-slot.ensures.value (met_at c.args.cost c.args.via) _ refl)
     ∙ listed_there c.self.inside c.self.invariant c.args.self.now c.self.view_is c.args.key c.in-Some.place c.in-Some.ensures.0 c.in-Some.ensures.1
 
 pub returns-then-slot-cost-clause-table : goal.returns-then-slot-cost-clause-table

@@ -1,14 +1,14 @@
 use Rattle.std.proofs.Common.{◌<◌, arith, refl, sym, subst}
-use Rattle.pattern_index.specs.Selections.{folded_size_of}
-use Rattle.database_build.specs.Folds.{Fold}
+use Rattle.pattern_index.specs.Groups.{folded_size_of}
+use Rattle.database_build.specs.Folds.{FoldedModel}
 use Rattle.database_build.proofs.FoldLemmas.{byte_read, bytes_size, place_read, word_read, words_size}
 use Rattle.database_build.proofs.folding.Folded.entry.Goals as goal
 
 pub sparse_at-requires : goal.sparse_at-requires
-sparse_at-requires c = subst (λ (f : Fold). c.args.place < folded_size_of f.selection) (sym c.self.view_is) c.requires
+sparse_at-requires c = subst (λ (f : FoldedModel). c.args.place < folded_size_of f.selection) (sym c.self.view_is) c.requires
 
 pub sparse_at-requires-in-Words : goal.sparse_at-requires-in-Words
-sparse_at-requires-in-Words c = subst (λ (f : Fold). c.args.place < folded_size_of f.selection) (sym c.self.view_is) c.requires
+sparse_at-requires-in-Words c = subst (λ (f : FoldedModel). c.args.place < folded_size_of f.selection) (sym c.self.view_is) c.requires
 
 pub index-requires-in-Bytes : goal.index-requires-in-Bytes
 index-requires-in-Bytes c =

@@ -9,7 +9,7 @@ use Rattle.worker_core.specs.Roles.{guide_of}
 use Rattle.worker_core.specs.Settling.{SettleOrDrop}
 use Rattle.worker_core.specs.Workers.{state_of}
 use Rattle.worker_core.proofs.GuideLemmas.{own_settles, stays_guided}
-use Rattle.hda_run.specs.Problems.{task_in}
+use Rattle.hda_run.specs.Jobs.{task_in}
 use Rattle.hda_run.specs.Worlds.{world_of}
 use Rattle.hda_run.proofs.PartsLemmas.{none_lacks, below, is_worker, by_worker, on_book, on_lane, role_is, guided_after, is_guided, set_guided, same_guided, grants_counted, purse_funded, some_unsent, owner_is, unsent_count, row_count, lane_count, are_two}
 use Rattle.hda_run.proofs.parts.Parts.other_step.Goals as goal

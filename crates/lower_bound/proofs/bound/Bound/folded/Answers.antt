@@ -1,6 +1,6 @@
 use Rattle.std.proofs.Common.{rules, ◌≡◌, map, refl, ap, ◌∙◌, subst, inr, Vec, Global}
 use Rattle.std.proofs.lemmas.Bool.{false≢true}
-use Rattle.database_build.specs.Folds.{Fold}
+use Rattle.database_build.specs.Folds.{FoldedModel}
 use Rattle.lower_bound.specs.Folded.{AreFoldsOf}
 use Rattle.lower_bound.specs.Tables.{IsTables}
 use Rattle.lower_bound.specs.Lists.{tables_in}
@@ -19,11 +19,11 @@ invariant_of-result c = (is_tables, c.self.invariant.1, (λ none. absurd (false�
     each : AreFoldsOf c.self.inside.partition.groups c.match-held.folds.items
     each = elim c.match-held.branch [
       | in-Whole+in_ok-folds-in-Whole w ↦
-          ap (λ (folds : Vec Fold Global). map (λ (fold : Fold). fold.selection) folds.items) w.folds-is
+          ap (λ (folds : Vec FoldedModel Global). map (λ (fold : FoldedModel). fold.selection) folds.items) w.folds-is
           ∙ folded_groups w.in-Whole.tables.items w.in_ok-folds-in-Whole.folds.items w.in_ok-folds-in-Whole.ensures.folded
           ∙ whole_each (tables_in c.self.inside.partition (Whole w.in-Whole.tables)) (there (Whole w.in-Whole.tables) w.in-Whole.is) refl
       | in-Folded w ↦
-          ap (λ (folds : Vec Fold Global). map (λ (fold : Fold). fold.selection) folds.items) w.folds-is
+          ap (λ (folds : Vec FoldedModel Global). map (λ (fold : FoldedModel). fold.selection) folds.items) w.folds-is
           ∙ folded_each (tables_in c.self.inside.partition (Folded w.in-Folded.kept)) (there (Folded w.in-Folded.kept) w.in-Folded.is) refl
     ]
 

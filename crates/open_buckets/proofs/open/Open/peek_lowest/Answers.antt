@@ -2,7 +2,7 @@ use Rattle.std.proofs.Common.{◌≡◌, ◌≢◌, ◌<◌, ◌-◌, ◌∙◌,
 use Rattle.std.specs.Vec.{vec_len}
 use Rattle.std.specs.Prelude.{false, true}
 use Rattle.std.proofs.lemmas.Bool.{cases_eq, eqb-true, eq-eqb}
-use Rattle.open_buckets.specs.OpenLists.{entries_at, IsNext}
+use Rattle.open_buckets.specs.OpenLists.{entries_at, IsNextEntry}
 use Rattle.open_buckets.specs.Buckets.{list_of}
 use Rattle.open_buckets.proofs.BucketLemmas.{empty_at, next_in}
 use Rattle.open_buckets.proofs.open.Open.peek_lowest.Goals as goal
@@ -25,4 +25,4 @@ returns-then-not-is_empty g c =
     let below : c.places.place < c.args.below = let t = c.places-test.true in omega arith in
     let some : vec_len bucket ≢ 0 = λ none. let no : false ≡ true = sym c.if-not-is_empty.true ∙ c.is_empty.ensures ∙ eq-eqb (vec_len bucket) 0 none in cc in
     let last : c.index.result.now ≡ get_or bucket.items (vec_len bucket - 1) c.index.result.now = c.index.ensures ∙ ap (λ n. get_or bucket.items (n - 1) c.index.result.now) c.len-then-not-is_empty.ensures in
-    (c.places.place, below, subst (λ w. IsNext c.places.place c.index.result.now w) c.self.view_is (next_in bs c.places.place bucket c.index.result.now here c.index-bucket.ensures some last c.places.invariant))
+    (c.places.place, below, subst (λ w. IsNextEntry c.places.place c.index.result.now w) c.self.view_is (next_in bs c.places.place bucket c.index.result.now here c.index-bucket.ensures some last c.places.invariant))

@@ -1,6 +1,6 @@
 use Rattle.std.proofs.Common.{◌≡◌, ◌<◌, ◌∙◌, length, sym, subst, arith, length-set}
 use Rattle.std.specs.Prelude.{set}
-use Rattle.open_buckets.specs.OpenLists.{places_at, Puts}
+use Rattle.open_buckets.specs.OpenLists.{places_at, PutsEntry}
 use Rattle.open_buckets.specs.Buckets.{list_of}
 use Rattle.open_buckets.proofs.BucketLemmas.{has_bucket, put_in, others_set}
 use Rattle.open_buckets.proofs.open.Open.put.Goals as goal
@@ -31,7 +31,7 @@ returns-then-place-self g c =
     let f = c.args.f in
     let lt : c.args.f < length bs = has_bucket bs f (subst (λ w. 0 < places_at w f) (sym c.self.view_is) c.requires) in
     let items = rw c.if-is_err.ensures.negation at c.push.ensures.items in
-    subst (λ w. Puts f (c.args.key, c.args.g) w (list_of (set bs f c.push.new.items))) c.self.view_is
+    subst (λ w. PutsEntry f (c.args.key, c.args.g) w (list_of (set bs f c.push.new.items))) c.self.view_is
     (put_in bs f c.push.new.items lt c.index_mut-bucket.result.now c.index_mut-bucket.ensures.value (c.args.key, c.args.g) items c.push.ensures.capacity)
 
 pub returns-else-place-self : goal.returns-else-place-self
@@ -40,5 +40,5 @@ returns-else-place-self g c =
     let f = c.args.f in
     let lt : c.args.f < length bs = has_bucket bs f (subst (λ w. 0 < places_at w f) (sym c.self.view_is) c.requires) in
     let items = rw c.if-is_err.ensures.negation at c.push.ensures.items in
-    subst (λ w. Puts f (c.args.key, c.args.g) w (list_of (set bs f c.push.new.items))) c.self.view_is
+    subst (λ w. PutsEntry f (c.args.key, c.args.g) w (list_of (set bs f c.push.new.items))) c.self.view_is
     (put_in bs f c.push.new.items lt c.index_mut-bucket.result.now c.index_mut-bucket.ensures.value (c.args.key, c.args.g) items c.push.ensures.capacity)

@@ -2,7 +2,7 @@ use Rattle.std.proofs.Common.{◌≡◌, ◌<◌, ◌+◌, ◌-◌, ◌∙◌, l
 use Rattle.std.specs.Prelude.{set}
 use Rattle.std.proofs.lemmas.Bool.{cases_eq}
 use Rattle.std.proofs.lemmas.List.{append-nil, nil_from_length}
-use Rattle.open_buckets.specs.OpenLists.{entries_at, Takes}
+use Rattle.open_buckets.specs.OpenLists.{entries_at, TakesEntry}
 use Rattle.open_buckets.specs.Buckets.{list_of}
 use Rattle.open_buckets.proofs.BucketLemmas.{taken_from, nothing_taken, others_set, entries_set}
 use Rattle.open_buckets.proofs.open.Open.take_lowest.Goals as goal
@@ -28,7 +28,7 @@ returns-in-Some g c =
     let spare : c.pop.new.self.cap - c.pop.new.self.len ≡ old.cap - old.len + 1 = let cap = c.in-Some.ensures.capacity in let len = c.in-Some.ensures.cases in let fits = old.ok.1 in omega arith in (
       f,
       below,
-      subst (λ w. Takes f c.in-Some.entry w (list_of (set bs f c.pop.new.self))) c.cursor.invariant.same
+      subst (λ w. TakesEntry f c.in-Some.entry w (list_of (set bs f c.pop.new.self))) c.cursor.invariant.same
           (taken_from bs f c.pop.new.self lt old c.index_mut-bucket.ensures.value c.in-Some.entry c.in-Some.ensures.items spare c.cursor.invariant.before),
     )
 

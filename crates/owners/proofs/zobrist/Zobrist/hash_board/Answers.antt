@@ -1,6 +1,6 @@
 use Rattle.std.proofs.Common.{◌≡◌, bit_xor, sym, ap, ◌∙◌, arith}
-use Rattle.board.specs.Grids.{cell_count}
-use Rattle.board.specs.Positions.{cell_of}
+use Rattle.board.specs.Shapes.{cell_count}
+use Rattle.board.specs.Boards.{cell_of}
 use Rattle.owners.specs.Owners.{word_on}
 use Rattle.owners.proofs.OwnerLemmas.{hash_begun, hash_more, hash_ended}
 use Rattle.owners.proofs.zobrist.Zobrist.hash_board.Goals as goal

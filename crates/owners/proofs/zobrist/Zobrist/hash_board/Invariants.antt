@@ -1,5 +1,5 @@
 use Rattle.std.specs.Prelude.{◌≡◌, ◌≤◌, map}
-use Rattle.board.specs.Grids.{cell_count}
+use Rattle.board.specs.Shapes.{cell_count}
 use Rattle.owners.specs.Owners.{hash_from}
 use Rattle.owners.proofs.OwnerLemmas.{below}
 use Rattle.owners.proofs.zobrist.Zobrist.hash_board.Given as goal

@@ -4,8 +4,8 @@ use Rattle.std.specs.Int.Bits.{xor_zero_r}
 use Rattle.std.proofs.Math.ListN.{set, get_or}
 use Rattle.std.proofs.lemmas.List.{get_or-set_other, length-set}
 use Rattle.std.proofs.lemmas.List.Edits.{swap_is}
-use Rattle.board.specs.Grids.{Grid, cell_count}
-use Rattle.board.specs.Positions.{Position, blank_of}
+use Rattle.board.specs.Shapes.{ShapeModel, cell_count}
+use Rattle.board.specs.Boards.{BoardModel, blank_of}
 use Rattle.board.specs.Moves.{blank_exchange}
 use Rattle.board.proofs.StepLemmas.{blank_stands}
 use Rattle.owners.specs.Owners.{word_on, hash_from, hash_of}
@@ -34,7 +34,7 @@ module _ (cells : ℕ) where
       ∙ ap (λ (x : ℕ). bit_xor x (word_on cells tile cell)) filled
 
 -- the hash of a board after a slide
-hash-slide : (grid : Grid) (b : Position) (slide : Slide) (hash there here : ℕ) → IsSlide grid b slide → hash ≡ hash_of b → there ≡ word_on (cell_count grid) slide.tile slide.to → here ≡ word_on (cell_count grid) slide.tile slide.from → bit_xor (bit_xor hash there) here ≡ hash_of (blank_exchange b slide.from)
+hash-slide : (grid : ShapeModel) (b : BoardModel) (slide : Slide) (hash there here : ℕ) → IsSlide grid b slide → hash ≡ hash_of b → there ≡ word_on (cell_count grid) slide.tile slide.to → here ≡ word_on (cell_count grid) slide.tile slide.from → bit_xor (bit_xor hash there) here ≡ hash_of (blank_exchange b slide.from)
 hash-slide grid b slide hash there here is hashed to from =
     let n = cell_count grid in
     let stands = blank_stands b is.board in
@@ -61,4 +61,4 @@ returns c = λ b has.
     let found : Some c.unwrap-before.result ≡ Some (hash_of before) = sym c.unwrap-before.ensures ∙ c.requires.moved.2 in
     let hash_is : c.unwrap-before.result ≡ hash_of before = cc in
     let after = hash-slide moved.shape before slide c.unwrap-before.result c.word-there.result c.word-here.result is.slide hash_is (c.word-there.ensures ∙ ap (λ n. word_on n slide.tile slide.to) c.cells-cells.ensures.value) (c.word-here.ensures ∙ ap (λ n. word_on n slide.tile slide.from) c.cells-cells.ensures.value) in
-    c.worker_of.ensures.value ∙ ap (λ (k : ℕ). k % c.args.workers) (after ∙ ap (λ (p : Position). hash_of p) (sym (after_slide before b moved is has)))
+    c.worker_of.ensures.value ∙ ap (λ (k : ℕ). k % c.args.workers) (after ∙ ap (λ (p : BoardModel). hash_of p) (sym (after_slide before b moved is has)))

@@ -1,5 +1,5 @@
 use Rattle.std.proofs.Common.{◌≡◌, ℕ, ap, refl, ◌+◌, ◌∙◌, arith}
-use Rattle.board.specs.Grids.{cell_count}
+use Rattle.board.specs.Shapes.{cell_count}
 use Rattle.pattern_graph.specs.Sets.{choose}
 use Rattle.pattern_graph.proofs.RegionLemmas.{begun_own, begun_next, begun_regions, numbered_first}
 use Rattle.pattern_graph.proofs.regions.Regions.new.Goals as goal

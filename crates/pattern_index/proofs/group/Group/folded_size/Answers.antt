@@ -1,5 +1,5 @@
 use Rattle.std.proofs.Common.{◌≡◌, ◌<◌, ◌≤◌, ◌-◌, ◌/◌, ℕ, length, subst, sym, ap, ◌∙◌, arith}
-use Rattle.board.specs.Grids.{cell_count}
+use Rattle.board.specs.Shapes.{cell_count}
 use Rattle.pattern_index.proofs.RankLemmas.{ways_some}
 use Rattle.pattern_index.proofs.WaysLemmas.{ways_quotient}
 use Rattle.pattern_index.proofs.PlaceLemmas.{ways-quot}

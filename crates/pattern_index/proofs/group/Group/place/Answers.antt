@@ -1,8 +1,8 @@
 use Rattle.std.proofs.Common.{◌≡◌, ◌<◌, ◌-◌, length, drop, take, sym, ap, ◌∙◌, subst, arith}
 use Rattle.std.proofs.lemmas.List.{take_rest}
-use Rattle.board.specs.Grids.{cell_count}
+use Rattle.board.specs.Shapes.{cell_count}
 use Rattle.pattern_index.specs.Ranks.{IsListing, ways, rank_of}
-use Rattle.pattern_index.specs.Selections.{place_in, folded_size_of}
+use Rattle.pattern_index.specs.Groups.{place_in, folded_size_of}
 use Rattle.pattern_index.proofs.GroupLemmas.{groups_small}
 use Rattle.pattern_index.proofs.PlaceLemmas.{place_listing, place_below, ways-less}
 use Rattle.pattern_index.proofs.group.Group.place.Goals as goal

@@ -1,9 +1,9 @@
 use Rattle.std.proofs.Common.{◌≡◌, ◌<◌, List, ℕ, map, length, sym, ap, ◌∙◌, subst, arith}
 use Rattle.std.specs.Prelude.{slice_index}
-use Rattle.board.specs.Grids.{cell_count}
+use Rattle.board.specs.Shapes.{cell_count}
 use Rattle.pattern_index.specs.Ranks.{IsListing, ways, rank_of}
 use Rattle.pattern_index.specs.Views.{view_at}
-use Rattle.pattern_index.specs.Selections.{place_in, folded_size_of}
+use Rattle.pattern_index.specs.Groups.{place_in, folded_size_of}
 use Rattle.pattern_index.proofs.GroupLemmas.{groups_small}
 use Rattle.pattern_index.proofs.PlaceLemmas.{place_listing, place_below, ways-less}
 use Rattle.pattern_index.proofs.group.Group.place_at.Goals as goal

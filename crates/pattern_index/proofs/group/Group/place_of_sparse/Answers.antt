@@ -2,11 +2,11 @@ use Rattle.std.proofs.Common.{◌≡◌, ◌≢◌, ◌<◌, ◌≤◌, ℕ, Lis
 use Rattle.std.specs.Prelude.{AllPairs, Some}
 use Rattle.std.specs.List.{AllByRecursion}
 use Rattle.std.proofs.lemmas.Bool.{false≢true}
-use Rattle.board.specs.Grids.{cell_count}
+use Rattle.board.specs.Shapes.{cell_count}
 use Rattle.pattern_index.specs.Ranks.{IsListing, ways, rank_of}
-use Rattle.pattern_index.specs.Views.{Sight, IsView}
+use Rattle.pattern_index.specs.Views.{ViewModel, IsView}
 use Rattle.pattern_index.specs.Sparse.{digits_in, sparse_in}
-use Rattle.pattern_index.specs.Selections.{Selection, IsSelection, folded_size_of}
+use Rattle.pattern_index.specs.Groups.{GroupModel, IsGroup, folded_size_of}
 use Rattle.pattern_index.proofs.RankLemmas.{listing_from, differ_from_pairs, below_in, differ_in, rank_below}
 use Rattle.pattern_index.proofs.GroupLemmas.{groups_small}
 use Rattle.pattern_index.proofs.PlaceLemmas.{place_listing, ways-less}
@@ -17,8 +17,8 @@ abbrev zeros : List ℕ
 zeros = 0 ∷ 0 ∷ 0 ∷ 0 ∷ 0 ∷ 0 ∷ 0 ∷ 0 ∷ 0 ∷ []
 
 -- what is known of the digits `list` of the number, where there are `n` cells and `k` tiles
-module _ (g : Selection) (selection : IsSelection g) (n k sparse : ℕ) (cells : n ≡ cell_count g.grid) (tiles : k ≡ length g.tiles) (list : List ℕ) (are : list ≡ digits_in n k sparse) where
-  view_is : (v : Sight) → IsView g.grid g.tiles v → sparse_in g.grid v ≡ sparse → list ≡ v.cells
+module _ (g : GroupModel) (selection : IsGroup g) (n k sparse : ℕ) (cells : n ≡ cell_count g.grid) (tiles : k ≡ length g.tiles) (list : List ℕ) (are : list ≡ digits_in n k sparse) where
+  view_is : (v : ViewModel) → IsView g.grid g.tiles v → sparse_in g.grid v ≡ sparse → list ≡ v.cells
   view_is v view is = are ∙ (λ i. digits_in (cells i) (tiles i) sparse) ∙ view_digits g.grid g.tiles v sparse view is
 
   some_cells : 0 < n
@@ -33,7 +33,7 @@ module _ (g : Selection) (selection : IsSelection g) (n k sparse : ℕ) (cells :
   ways_are : ways n (length list) ≡ folded_size_of g
   ways_are = λ i. ways (cells i) ((long ∙ tiles) i)
 
-module _ (g : Selection) (n : ℕ) (count : List ℕ) (sparse : ℕ) (digits : List ℕ) (few : length g.tiles ≤ 9) (tiles : count ≡ g.tiles) (wrote : digits ≡ digits_in n (length (take (length count) zeros)) sparse) where
+module _ (g : GroupModel) (n : ℕ) (count : List ℕ) (sparse : ℕ) (digits : List ℕ) (few : length g.tiles ≤ 9) (tiles : count ≡ g.tiles) (wrote : digits ≡ digits_in n (length (take (length count) zeros)) sparse) where
   list_is : take (length count) (digits ++ drop (length count) zeros) ≡ digits_in n (length count) sparse
   list_is = let e = ap length tiles in written n (length count) sparse zeros digits (omega (arith, e, few)) wrote
 

@@ -1,6 +1,6 @@
 use Rattle.std.proofs.Common.{rules, ◌≡◌, ◌<◌, suc, length, sym, ap, ◌∙◌, subst, arith}
-use Rattle.board.specs.Grids.{cell_count}
-use Rattle.pattern_index.specs.Selections.{rank_in, size_of}
+use Rattle.board.specs.Shapes.{cell_count}
+use Rattle.pattern_index.specs.Groups.{rank_in, size_of}
 use Rattle.pattern_index.proofs.GroupLemmas.{groups_small}
 use Rattle.pattern_index.proofs.SightLemmas.{sight_below}
 use Rattle.pattern_index.proofs.group.Group.rank.Goals as goal

@@ -1,6 +1,6 @@
 use Rattle.std.proofs.Common.{rules, ◌≡◌, ◌<◌, sym, subst, arith}
 use Rattle.pattern_index.specs.Views.{view_at}
-use Rattle.pattern_index.specs.Selections.{rank_in, size_of}
+use Rattle.pattern_index.specs.Groups.{rank_in, size_of}
 use Rattle.pattern_index.proofs.SightLemmas.{sight_below}
 use Rattle.pattern_index.proofs.group.Group.rank_at.Goals as goal
 

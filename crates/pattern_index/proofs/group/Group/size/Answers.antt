@@ -1,5 +1,5 @@
 use Rattle.std.proofs.Common.{◌<◌, ◌∙◌, ℕ, suc, length, subst, sym}
-use Rattle.board.specs.Grids.{cell_count}
+use Rattle.board.specs.Shapes.{cell_count}
 use Rattle.pattern_index.specs.Packing.{selection_in}
 use Rattle.pattern_index.proofs.RankLemmas.{ways_some}
 use Rattle.pattern_index.proofs.WaysLemmas.{ways_quotient}

@@ -1,7 +1,7 @@
 use Rattle.std.proofs.Common.{◌≡◌, ◌<◌, ◌-◌, length, drop, take, sym, ap, ◌∙◌, subst, arith}
 use Rattle.std.specs.Prelude.{All}
 use Rattle.std.proofs.lemmas.List.{take_rest}
-use Rattle.board.specs.Grids.{cell_count}
+use Rattle.board.specs.Shapes.{cell_count}
 use Rattle.pattern_index.proofs.GroupLemmas.{groups_small}
 use Rattle.pattern_index.proofs.PlaceLemmas.{place_listing}
 use Rattle.pattern_index.proofs.group.Group.sparse_place.Goals as goal

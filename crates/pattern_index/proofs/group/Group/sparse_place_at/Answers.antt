@@ -1,6 +1,6 @@
 use Rattle.std.proofs.Common.{◌<◌, ℕ, List, map, sym, ap, ◌∙◌, subst}
 use Rattle.std.specs.Prelude.{slice_index, All}
-use Rattle.board.specs.Grids.{cell_count}
+use Rattle.board.specs.Shapes.{cell_count}
 use Rattle.pattern_index.specs.Views.{view_at}
 use Rattle.pattern_index.proofs.PlaceLemmas.{place_listing}
 use Rattle.pattern_index.proofs.group.Group.sparse_place_at.Goals as goal

@@ -1,11 +1,11 @@
 use Rattle.std.proofs.Common.{◌≡◌, ◌<◌, ◌≤◌, Some, refl, sym, ap, ◌∙◌, drop, arith}
 use Rattle.std.proofs.lemmas.List.{take_rest}
 use Rattle.std.specs.Prelude.{option_map}
-use Rattle.board.specs.Grids.{cell_count}
+use Rattle.board.specs.Shapes.{cell_count}
 use Rattle.board.specs.Neighbours.{neighbour}
 use Rattle.board.proofs.MoveLemmas.{cell_below}
 use Rattle.pattern_index.specs.Views.{weight_on}
-use Rattle.pattern_index.specs.Selections.{sight_successor_at, abstraction_of}
+use Rattle.pattern_index.specs.Groups.{view_successor_at, abstraction_of}
 use Rattle.pattern_index.proofs.ViewMoveLemmas.{moved_view, blank_inside, sight_moves_from}
 use Rattle.pattern_index.proofs.GroupLemmas.{cells_high}
 use Rattle.pattern_index.proofs.group.Group.step.Goals as goal
@@ -26,7 +26,7 @@ returns-clause-value c =
     ∙ (λ i. weight_on c.args.weights.now (c.tiles.ensures.value i) (take_rest c.cells.result.now 1 i) c.in_ok-to.to)
     ∙ ap (λ xs. weight_on c.args.weights.now c.args.self.now.tiles (drop 1 xs) c.in_ok-to.to) c.cells.ensures
     in
-    sym (ap (option_map (sight_successor_at (abstraction_of c.args.self.now c.args.weights.now) c.args.view.now)) there ∙ (λ i. Some (sym c.moved_to.ensures i, sym cost i)))
+    sym (ap (option_map (view_successor_at (abstraction_of c.args.self.now c.args.weights.now) c.args.view.now)) there ∙ (λ i. Some (sym c.moved_to.ensures i, sym cost i)))
 
 pub returns-clause-moves : goal.returns-clause-moves
 returns-clause-moves c =

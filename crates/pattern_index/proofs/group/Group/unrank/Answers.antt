@@ -1,8 +1,8 @@
 use Rattle.std.proofs.Common.{◌≡◌, ◌+◌, suc, length, sym, ap, ◌∙◌, add-one}
-use Rattle.board.specs.Grids.{cell_count}
+use Rattle.board.specs.Shapes.{cell_count}
 use Rattle.pattern_index.specs.Ranks.{list_at}
 use Rattle.pattern_index.specs.Views.{IsView}
-use Rattle.pattern_index.specs.Selections.{rank_in}
+use Rattle.pattern_index.specs.Groups.{rank_in}
 use Rattle.pattern_index.proofs.SightLemmas.{sight_of_list, sight_from_rank, cells_of}
 use Rattle.pattern_index.proofs.group.Group.unrank.Goals as goal
 

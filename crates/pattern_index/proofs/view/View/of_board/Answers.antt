@@ -2,7 +2,7 @@ use Rattle.std.proofs.Common.{◌<◌, length, ap, ◌∙◌, arith}
 use Rattle.std.specs.Prelude.{slice_index}
 use Rattle.std.proofs.lemmas.List.{length-map}
 use Rattle.std.proofs.lemmas.List.Elements.{recursion_from_All}
-use Rattle.board.specs.Grids.{cell_count}
+use Rattle.board.specs.Shapes.{cell_count}
 use Rattle.board.proofs.NeighbourLemmas.{cells_above}
 use Rattle.pattern_index.proofs.StorageLemmas.{view_stored, view_seen, zeros_behind, looked_up}
 use Rattle.pattern_index.proofs.view.View.of_board.Goals as goal

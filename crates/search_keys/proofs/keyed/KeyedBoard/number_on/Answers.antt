@@ -1,6 +1,6 @@
 use Rattle.std.proofs.Common.{◌<◌, ◌≤◌, ℕ, sym, ap, subst, ◌∙◌, arith}
-use Rattle.board.specs.Grids.{Grid, cell_count}
-use Rattle.board.specs.Positions.{cell_of}
+use Rattle.board.specs.Shapes.{ShapeModel, cell_count}
+use Rattle.board.specs.Boards.{cell_of}
 use Rattle.search_keys.proofs.SearchKeyLemmas.{short_stored, short_here, long_here, first_is, tile_on, tile_digit, many_cells, few_cells, stored_board, stored_grid}
 use Rattle.search_keys.proofs.keyed.KeyedBoard.number_on.Goals as goal
 
@@ -10,7 +10,7 @@ overflow_cast-self-inside c = let low = short_stored c.self.inside c.self.invari
 pub short_place-requires-clause-found : goal.short_place-requires-clause-found
 short_place-requires-clause-found c =
     let tile = tile_on c.self.inside c.args.self.now c.self.invariant c.self.view_is c.args.cell c.requires in
-    let most = subst (λ (g : Grid). cell_count g ≤ 16) (stored_grid c.self.inside c.args.self.now c.self.invariant c.self.view_is) (c.is_short.ensures.0 c.if-is_short.true) in
+    let most = subst (λ (g : ShapeModel). cell_count g ≤ 16) (stored_grid c.self.inside c.args.self.now c.self.invariant c.self.view_is) (c.is_short.ensures.0 c.if-is_short.true) in
     (_, omega (arith, tile.0, most), tile_digit c.self.inside c.args.self.now c.self.invariant c.self.view_is 16 (short_here c.self.inside c.args.self.now c.self.invariant c.self.view_is (c.is_short.ensures.0 c.if-is_short.true)) c.args.cell c.requires)
 
 pub returns-then-is_short-clause-value : goal.returns-then-is_short-clause-value

@@ -1,5 +1,5 @@
 use Rattle.std.proofs.Common.{◌≤◌, subst, arith}
-use Rattle.board.specs.Grids.{Grid, cell_count}
+use Rattle.board.specs.Shapes.{ShapeModel, cell_count}
 use Rattle.board.specs.Moves.{blank_exchange}
 use Rattle.search_keys.proofs.SearchKeyLemmas.{short_stored, short_here, long_here, slid, slid_as, short_fits, long_fits, many_cells, stored_grid}
 use Rattle.search_keys.proofs.keyed.KeyedBoard.slide.Goals as goal
@@ -13,7 +13,7 @@ short_exchanged-key-requires-clause-stand c = (slid_as c.self.inside c.args.self
 pub short_exchanged-key-requires-clause-fits : goal.short_exchanged-key-requires-clause-fits
 short_exchanged-key-requires-clause-fits c =
     let both = slid_as c.self.inside c.args.self.now c.self.invariant c.self.view_is 16 c.args.to c.number_on-tile.result c.blank-blank.result (slid c.self.inside c.args.self.now c.self.invariant c.self.view_is 16 (short_here c.self.inside c.args.self.now c.self.invariant c.self.view_is (c.is_short.ensures.0 c.if-is_short.true)) c.requires.0 c.args.to c.requires.1) c.number_on-tile.ensures.value c.blank-blank.ensures.value in
-    let low = short_fits (blank_exchange c.args.self.now c.args.to) (slid c.self.inside c.args.self.now c.self.invariant c.self.view_is 16 (short_here c.self.inside c.args.self.now c.self.invariant c.self.view_is (c.is_short.ensures.0 c.if-is_short.true)) c.requires.0 c.args.to c.requires.1).board (subst (λ (g : Grid). cell_count g ≤ 16) (stored_grid c.self.inside c.args.self.now c.self.invariant c.self.view_is) (c.is_short.ensures.0 c.if-is_short.true)) in
+    let low = short_fits (blank_exchange c.args.self.now c.args.to) (slid c.self.inside c.args.self.now c.self.invariant c.self.view_is 16 (short_here c.self.inside c.args.self.now c.self.invariant c.self.view_is (c.is_short.ensures.0 c.if-is_short.true)) c.requires.0 c.args.to c.requires.1).board (subst (λ (g : ShapeModel). cell_count g ≤ 16) (stored_grid c.self.inside c.args.self.now c.self.invariant c.self.view_is) (c.is_short.ensures.0 c.if-is_short.true)) in
     omega (arith, both.1)
 
 pub returns-then-is_short-clause-key : goal.returns-then-is_short-clause-key

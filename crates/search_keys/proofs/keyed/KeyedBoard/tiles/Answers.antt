@@ -1,8 +1,8 @@
 use Rattle.std.proofs.Common.{◌≡◌, ◌<◌, ◌+◌, ℕ, set, sym, ap, subst, ◌∙◌, arith}
 use Rattle.std.specs.Prelude.{slice_index}
 use Rattle.std.proofs.lemmas.List.{length-set}
-use Rattle.board.specs.Grids.{cell_count}
-use Rattle.board.specs.Positions.{cell_of}
+use Rattle.board.specs.Shapes.{cell_count}
+use Rattle.board.specs.Boards.{cell_of}
 use Rattle.board.proofs.TileLemmas.{has_cell}
 use Rattle.search_keys.proofs.SearchKeyLemmas.{numbers_more, numbers_all}
 use Rattle.search_keys.proofs.keyed.KeyedBoard.tiles.Goals as goal

@@ -1,5 +1,5 @@
 use Rattle.std.proofs.Common.{ℕ, ◌≡◌, ◌<◌, length, slice_index}
-use Rattle.board.specs.Positions.{cell_of}
+use Rattle.board.specs.Boards.{cell_of}
 use Rattle.search_keys.proofs.keyed.KeyedBoard.tiles.Given as goal
 
 -- the first numbers stand on their cells

@@ -1,13 +1,13 @@
 use Rattle.std.proofs.Common.{rules, ◌≡◌, refl, sym, arith}
-use Rattle.board.specs.Grids.{Grid}
-use Rattle.board.specs.Positions.{goal_of}
+use Rattle.board.specs.Shapes.{ShapeModel}
+use Rattle.board.specs.Boards.{goal_of}
 use Rattle.board.proofs.GoalLemmas.{goal_board}
 use Rattle.pattern_index.specs.Sparse.{sparse_of}
 use Rattle.search_keys.specs.SearchKeys.{search_key, HasSearchKey}
 use Rattle.search_keys.proofs.SearchKeyLemmas.{key_read, keyed_as}
 use Rattle.search_keys.proofs.keyed.KeyedBoardDefault.default.Goals as goal
 
-abbrev smallest : Grid
+abbrev smallest : ShapeModel
 smallest = record { rows = 2; cols = 2 }
 
 -- its search key, computed
@@ -15,7 +15,7 @@ key_is : search_key (goal_of smallest) ≡ 12816
 unfolding sparse_of
 key_is = refl
 
-is_key : (shape : Grid) → shape ≡ smallest → HasSearchKey shape 12816 (goal_of smallest)
+is_key : (shape : ShapeModel) → shape ≡ smallest → HasSearchKey shape 12816 (goal_of smallest)
 is_key shape is = record {
   board = goal_board smallest (record { rows_low = omega arith; rows_high = omega arith; cols_low = omega arith; cols_high = omega arith });
   sides = sym is;

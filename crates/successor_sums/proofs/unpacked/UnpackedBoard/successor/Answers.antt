@@ -1,7 +1,7 @@
 use Rattle.std.proofs.Common.{◌≡◌, ◌-◌, ◌+◌, ◌<◌, Some, sym, ◌∙◌, subst, arith}
-use Rattle.board.specs.Grids.{Grid, cell_count}
+use Rattle.board.specs.Shapes.{ShapeModel, cell_count}
 use Rattle.board.specs.Neighbours.{neighbour}
-use Rattle.board.specs.Positions.{Position, blank_of}
+use Rattle.board.specs.Boards.{BoardModel, blank_of}
 use Rattle.board.specs.Keys.{key_of}
 use Rattle.board.specs.Moves.{blank_exchange}
 use Rattle.board.proofs.MoveLemmas.{cell_below}
@@ -41,7 +41,7 @@ of-requires-clause-tile c =
 pub of-requires-clause-within : goal.of-requires-clause-within
 of-requires-clause-within c =
     let led = led_to c.self.inside c.args.self.now c.args.direction c.cells-last.result c.blank-from.result c.in_ok-to.to c.digit_of-tile.result c.self.invariant c.self.view_is c.cells-last.ensures.value c.blank-from.ensures.value ((c.neighbour.ensures.towards c.in_ok-to.to).0 c.in_ok-to.was) c.digit_of-tile.ensures in
-    subst (λ (g : Grid). c.digit_of-tile.result < cell_count g) (sym c.requires.rule) led.tile_low
+    subst (λ (g : ShapeModel). c.digit_of-tile.result < cell_count g) (sym c.requires.rule) led.tile_low
 
 pub sum_at-requires : goal.sum_at-requires
 sum_at-requires c =
@@ -62,4 +62,4 @@ returns-clause-fit c =
     let led = led_to c.self.inside c.args.self.now c.args.direction c.cells-last.result c.blank-from.result c.in_ok-to.to c.digit_of-tile.result c.self.invariant c.self.view_is c.cells-last.ensures.value c.blank-from.ensures.value ((c.neighbour.ensures.towards c.in_ok-to.to).0 c.in_ok-to.was) c.digit_of-tile.ensures in
     let key : c.self.inside.key - c.digit_at.result + c.digit_at-2.result ≡ key_of (blank_exchange c.args.self.now c.in_ok-to.to) = (λ i. c.self.inside.key - c.digit_at.ensures i + c.digit_at-2.ensures i) ∙ led.key_is in
     let low = cell_below c.self.inside.shape c.args.direction c.blank-from.result c.in_ok-to.to ((c.neighbour.ensures.towards c.in_ok-to.to).0 c.in_ok-to.was) in
-    fits_grid c.args.weights.now (parts_of c.args.bound.now) c.args.self.now c.args.direction c.self.inside c.cells-last.result c.blank-from.result (record { key = c.self.inside.key - c.digit_at.result + c.digit_at-2.result; cell = c.in_ok-to.to; tile = c.digit_of-tile.result; cost = c.of.result; sum = c.sum_at.result }) led key (subst (λ (p : Position). c.in_ok-to.to < cell_count p.grid) c.self.view_is low) c.of.ensures.low c.of.ensures.high c.sum_at.ensures.high
+    fits_grid c.args.weights.now (parts_of c.args.bound.now) c.args.self.now c.args.direction c.self.inside c.cells-last.result c.blank-from.result (record { key = c.self.inside.key - c.digit_at.result + c.digit_at-2.result; cell = c.in_ok-to.to; tile = c.digit_of-tile.result; cost = c.of.result; sum = c.sum_at.result }) led key (subst (λ (p : BoardModel). c.in_ok-to.to < cell_count p.grid) c.self.view_is low) c.of.ensures.low c.of.ensures.high c.sum_at.ensures.high

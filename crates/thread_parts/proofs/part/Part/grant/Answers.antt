@@ -3,7 +3,7 @@ use Rattle.worker_core.specs.Roles.{guide_of}
 use Rattle.worker_core.specs.Workers.{state_of, with_book}
 use Rattle.world_model.specs.BookSteps.{GrantStep}
 use Rattle.world_model.specs.Turns.{refusal_in, turn}
-use Rattle.hda_run.specs.Problems.{task_in}
+use Rattle.hda_run.specs.Jobs.{task_in}
 use Rattle.thread_parts.specs.Parts.{part_state, role_of}
 use Rattle.thread_parts.proofs.PartLemmas.{with_kept, barred, unbarred}
 use Rattle.thread_parts.proofs.part.Part.grant.Goals as goal

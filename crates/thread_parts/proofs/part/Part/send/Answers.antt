@@ -1,6 +1,6 @@
 use Rattle.std.proofs.Common.{◌<◌, ◌≡◌, length, inl, inr, refl, sym, ap, subst, arith}
 use Rattle.std.proofs.lemmas.Result.{on_ok_weaker, on_err_weaker}
-use Rattle.rings.specs.Rings.{SendingEnd}
+use Rattle.rings.specs.Rings.{SenderModel}
 use Rattle.thread_model.specs.Parts.{Keeps}
 use Rattle.thread_parts.specs.Parts.{part_state, role_of}
 use Rattle.thread_parts.proofs.PartLemmas.{answered, sends, none_sent, out_kept, with_out, full_lane, at_full, send_by_ring, out_count, holds_after}
@@ -33,8 +33,8 @@ returns-clause-part g c =
     let there : to < length old.outs.items = omega (arith, count, c.requires.there) in
     let new = with_out old to worker lane c.send.new.lane here in
     let ring : c.send.new.lane.ring ≡ c.index_mut-lane.result.now.ring = elim (answered c.send.result c.send.ensures.sent c.send.ensures.refused) [
-      | inl has ↦ ap (λ (e : SendingEnd). e.ring) has.taken
-      | inr same ↦ ap (λ (e : SendingEnd). e.ring) same.0
+      | inl has ↦ ap (λ (e : SenderModel). e.ring) has.taken
+      | inr same ↦ ap (λ (e : SenderModel). e.ring) same.0
     ] in
     record {
       holds = holds_after owner_of n old c.requires.holds new refl refl (elim (answered c.send.result c.send.ensures.sent c.send.ensures.refused) [

@@ -1,7 +1,7 @@
 use Rattle.std.proofs.Common.{◌≡◌, ℕ, None, Option, refl, sym, ap, ◌∙◌, subst}
 use Rattle.std.specs.FinMap as map
 use Rattle.search_keys.specs.SearchKeys.{search_key}
-use Rattle.board.specs.Positions.{Position}
+use Rattle.board.specs.Boards.{BoardModel}
 use Rattle.world_model.specs.Turns.{turn}
 use Rattle.world_model.specs.Workers.{KnowsGoalAt}
 use Rattle.world_model.specs.BookCalls.{BookAnnounce}
@@ -14,7 +14,7 @@ use Rattle.worker_core.proofs.worker.Worker.announce.Goals as goal
 pub returns-clause-step : goal.returns-clause-step
 returns-clause-step g c = λ role is owner.
     let worker = state_of c.args.self.now in
-    let there = ap (λ (k : ℕ). g.S.Spread.owner_of c.args.owners.now k c.args.goal.now) (sym c.len.ensures) ∙ ap (λ (b : Position). g.S.Spread.owner_of c.args.owners.now c.len.result b) (sym c.board.ensures) ∙ sym c.owner.ensures.value ∙ c.if-owner-me.false in
+    let there = ap (λ (k : ℕ). g.S.Spread.owner_of c.args.owners.now k c.args.goal.now) (sym c.len.ensures) ∙ ap (λ (b : BoardModel). g.S.Spread.owner_of c.args.owners.now c.len.result b) (sym c.board.ensures) ∙ sym c.owner.ensures.value ∙ c.if-owner-me.false in
     let mine : role.owner role.task.goal ≡ role.me = ap role.owner is.ends ∙ owner ∙ ap (λ (k : ℕ). g.S.Spread.owner_of c.args.owners.now k c.args.goal.now) (sym c.args.self.now.unsent.ok.0) ∙ there ∙ sym is.me in
     let knows : KnowsGoalAt role.task worker c.in-Some.known.cost = (c.in-Some.known, ap (λ (k : ℕ). map.get worker.known k) (ap search_key is.ends ∙ sym c.key.ensures.value) ∙ sym c.get.ensures ∙ c.in-Some.is, refl) in
     let book' = c.announce.new.self in

@@ -3,7 +3,7 @@ use Rattle.std.proofs.lemmas.List.{length-map}
 use Rattle.std.specs.FinMap as map
 use Rattle.board.specs.declared.moves.Move.{Move}
 use Rattle.search_keys.specs.SearchKeys.{search_key}
-use Rattle.closed_table.specs.Tables.{Table}
+use Rattle.closed_table.specs.Tables.{ClosedModel}
 use Rattle.offers.specs.Offers.{AreOffered, item_by}
 use Rattle.offers.specs.Room.{HasRoom}
 use Rattle.successor_sums.specs.Unpacked.{but}
@@ -12,7 +12,7 @@ use Rattle.world_model.specs.Knowledge.{Knowledge}
 use Rattle.world_model.specs.Expansions.{expansion_by, moves_but}
 use Rattle.world_model.specs.WorkerSteps.{IsOverfull}
 use Rattle.world_model.specs.Workers.{HasNothingBelow}
-use Rattle.search_lists.specs.Lists.{Lists}
+use Rattle.search_lists.specs.Lists.{SearchListsModel}
 use Rattle.worker_core.specs.Contexts.{ContextModel, context_of, role_from, task_from}
 use Rattle.worker_core.specs.Expanding.{IsReady, LacksPlacesToExpand, stock, in_turn}
 use Rattle.worker_core.specs.Roles.{IsGuided}
@@ -32,7 +32,7 @@ returns-in_default-clause-step g c = λ start.
     let is = guided_read c.requires.guided.0 start context context refl guide lists c.requires.guided.2 in
     let none = none_below task guide lists worker refl is c.limit.result (c.in_default.ensures.none guide is.order) in
     step_for c.args.successors (role_from g.S.Spread.owner_of start context) _
-    (inl (subst (HasNothingBelow task worker) c.limit.ensures none, (refl, ap (λ (t : Table). record worker { known = t.known }) c.next.ensures.closed)))
+    (inl (subst (HasNothingBelow task worker) c.limit.ensures none, (refl, ap (λ (t : ClosedModel). record worker { known = t.known }) c.next.ensures.closed)))
 
 pub returns-then-left-eq0-clause-step : goal.returns-then-left-eq0-clause-step
 returns-then-left-eq0-clause-step g c = λ start.
@@ -47,7 +47,7 @@ returns-then-left-eq0-clause-step g c = λ start.
     let waits = λ (none : HasNothingBelow task worker (limit_of worker.best)). some_below task guide lists worker refl is c.limit.result next first c.in-Some.ensures.below (subst (HasNothingBelow task worker) (sym c.limit.ensures) none) in
     let spent : worker.allowance ≡ 0 = sym c.left.ensures.value ∙ c.if-left-eq0.true in
     step_for c.args.successors (role_from g.S.Spread.owner_of start context) _
-    (inr (waits, inl (spent, (refl, ap (λ (t : Table). record worker { known = t.known }) c.next.ensures.closed))))
+    (inr (waits, inl (spent, (refl, ap (λ (t : ClosedModel). record worker { known = t.known }) c.next.ensures.closed))))
 
 pub returns-then-not-has_room-clause-step : goal.returns-then-not-has_room-clause-step
 returns-then-not-has_room-clause-step g c = λ start.
@@ -71,7 +71,7 @@ returns-then-not-has_room-clause-step g c = λ start.
     let none : ¬ HasRoom inside.me worker.unsent offers = λ room. (let wrong = c.if-not-has_room.ensures.1 (subst (λ (xs : List Items). HasRoom inside.me (packets_of xs) offers) (sym c.deref.ensures.value) room) in cc) in
     let full = overfull role worker b known c.move_left_out.result task.sum offers it.offered read.goal.grid inside.workers it.within all none in
     step_lent g.S.Spread.owner_of start c.args.successors read context c.context.view_is _
-    (inr (it.waits, inr (some, (b, known, it.at, inl (subst (λ (o : Option Move). IsOverfull (expansion_by (moves_but o) role worker b known)) it.left_out_is full, (refl, ap (λ (t : Table). record worker { known = t.known }) c.next.ensures.closed))))))
+    (inr (it.waits, inr (some, (b, known, it.at, inl (subst (λ (o : Option Move). IsOverfull (expansion_by (moves_but o) role worker b known)) it.left_out_is full, (refl, ap (λ (t : ClosedModel). record worker { known = t.known }) c.next.ensures.closed))))))
 
 pub returns-then-not-has_room-clause-keeps : goal.returns-then-not-has_room-clause-keeps
 returns-then-not-has_room-clause-keeps g c = record {
@@ -117,7 +117,7 @@ returns-in-Err-clause-step g c = λ start.
     let room = subst (λ (xs : List Items). HasRoom inside.me (packets_of xs) offers) c.deref.ensures.value (c.has_room.ensures.0 (search rules)) in
     let some : worker.allowance ≡ 0 → ⊥ = λ none. c.if-left-eq0.false (c.left.ensures.value ∙ none) in
     let fits = none_overfull role worker b known c.move_left_out.result task.sum offers it.offered read.goal.grid inside.workers it.within all room in
-    let same = c.make_places.ensures.makes.same.known ∙ ap (λ (t : Table). t.known) c.next.ensures.closed in
+    let same = c.make_places.ensures.makes.same.known ∙ ap (λ (t : ClosedModel). t.known) c.next.ensures.closed in
     step_lent g.S.Spread.owner_of start c.args.successors read context c.context.view_is _
     (inr (it.waits, inr (some, (b, known, it.at, inr (subst (λ (o : Option Move). ¬ IsOverfull (expansion_by (moves_but o) role worker b known)) it.left_out_is fits, inr (c.in-Err.refused, (refl, ap (λ (m : Knowledge). record worker { known = m }) same)))))))
 
@@ -176,7 +176,7 @@ expand_next-requires-clause-ready g c κs within =
     subst
     (λ (x : ContextModel g.row.S.Denot). IsReady x.me x.goal.grid (stock c.read_ahead.new.lists worker.unsent) (in_turn offers))
     c.context.view_is
-    (subst (λ (made : Lists). IsReady inside.me read.goal.grid (stock made worker.unsent) (in_turn offers)) (sym c.read_ahead.ensures) (ready_for inside.me read.goal.grid known.cost inside.workers c.make_places.new.lists worker.unsent offers room it.within all c.in_default-make_places.ensures.makes.ok.0 c.in_default-make_places.ensures.makes.ok.1))
+    (subst (λ (made : SearchListsModel). IsReady inside.me read.goal.grid (stock made worker.unsent) (in_turn offers)) (sym c.read_ahead.ensures) (ready_for inside.me read.goal.grid known.cost inside.workers c.make_places.new.lists worker.unsent offers room it.within all c.in_default-make_places.ensures.makes.ok.0 c.in_default-make_places.ensures.makes.ok.1))
 
 pub returns-clause-step : goal.returns-clause-step
 returns-clause-step g c = λ start.
@@ -199,7 +199,7 @@ returns-clause-step g c = λ start.
     let room = subst (λ (xs : List Items). HasRoom inside.me (packets_of xs) offers) c.deref.ensures.value (c.has_room.ensures.0 (search rules)) in
     let some : worker.allowance ≡ 0 → ⊥ = λ none. c.if-left-eq0.false (c.left.ensures.value ∙ none) in
     let fits = none_overfull role worker b known c.move_left_out.result task.sum offers it.offered read.goal.grid inside.workers it.within all room in
-    let same = ap (λ (made : Lists). made.closed.known) c.read_ahead.ensures ∙ c.make_places.ensures.makes.same.known ∙ ap (λ (t : Table). t.known) c.next.ensures.closed in
+    let same = ap (λ (made : SearchListsModel). made.closed.known) c.read_ahead.ensures ∙ c.make_places.ensures.makes.same.known ∙ ap (λ (t : ClosedModel). t.known) c.next.ensures.closed in
     let knows = ap (λ (m : Knowledge). map.get m (search_key b)) same ∙ it.at.opens.knows in
     let me = ap (λ (x : ContextModel g.row.S.Denot). x.me) c.context.view_is in
     let sides = it.at.opens.board.1 ∙ ap (λ (x : ContextModel g.row.S.Denot). x.goal.grid) c.context.view_is in

@@ -2,7 +2,7 @@ use Rattle.std.proofs.Common.{rules, ◌≡◌, ◌≢◌, ℕ, List, [], length
 use Rattle.std.specs.Prelude.{All}
 use Rattle.std.specs.FinMap as map
 use Rattle.search_keys.specs.SearchKeys.{search_key}
-use Rattle.board.specs.Positions.{Position}
+use Rattle.board.specs.Boards.{BoardModel}
 use Rattle.world_model.specs.declared.steps.Refusal.{Refusal}
 use Rattle.world_model.specs.Costs.{IsNotBelow}
 use Rattle.world_model.specs.Turns.{turn}
@@ -21,7 +21,7 @@ returns-then-knows_better-clause-step g c = λ role guide of_me is.
     let runs : c.args.book.now.stop ≢ None → ⊥ = search rules in
     let rich : c.args.self.now.purse ≢ 0 = search rules in
     let better = c.knows_better.ensures.yes (search rules) in
-    let knows : KnowsGoalAt role.task worker better.0.cost = (better.0, ap (λ (b : Position). map.get worker.known (search_key b)) of_me.ends ∙ better.1, refl) in
+    let knows : KnowsGoalAt role.task worker better.0.cost = (better.0, ap (λ (b : BoardModel). map.get worker.known (search_key b)) of_me.ends ∙ better.1, refl) in
     inr (
       runs,
       inr (
@@ -43,7 +43,7 @@ returns-in-Ok-clause-step g c = λ role guide of_me is.
     subst
     (λ (x : ℕ × Option ℕ). IsNotBelow (Some x.0) x.1)
     (λ t. (knows.2 t, c.best.ensures t))
-    (c.knows_better.ensures.no (search rules) knows.0 (ap (λ (b : Position). map.get worker.known (search_key b)) (sym of_me.ends) ∙ knows.1)) in
+    (c.knows_better.ensures.no (search rules) knows.0 (ap (λ (b : BoardModel). map.get worker.known (search_key b)) (sym of_me.ends) ∙ knows.1)) in
     let floor = same_floor role.task guide c.args.self.now.lists worker refl is c.floor-floor.result (c.floor-floor.ensures.floor guide is.order) in
     let book' = c.rest.new.self in
     let purse' = c.rest.new.purse in
@@ -64,7 +64,7 @@ returns-in-Err-clause-step g c = λ role guide of_me is.
     subst
     (λ (x : ℕ × Option ℕ). IsNotBelow (Some x.0) x.1)
     (λ t. (knows.2 t, c.best.ensures t))
-    (c.knows_better.ensures.no (search rules) knows.0 (ap (λ (b : Position). map.get worker.known (search_key b)) (sym of_me.ends) ∙ knows.1)) in
+    (c.knows_better.ensures.no (search rules) knows.0 (ap (λ (b : BoardModel). map.get worker.known (search_key b)) (sym of_me.ends) ∙ knows.1)) in
     let floor = same_floor role.task guide c.args.self.now.lists worker refl is c.floor-floor.result (c.floor-floor.ensures.floor guide is.order) in
     let book' = c.rest.new.self in
     let purse' = c.rest.new.purse in

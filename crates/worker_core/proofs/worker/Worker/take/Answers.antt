@@ -1,7 +1,7 @@
 use Rattle.std.proofs.Common.{◌≡◌, sym, ap, ◌∙◌, subst}
-use Rattle.board.specs.Grids.{Grid}
+use Rattle.board.specs.Shapes.{ShapeModel}
 use Rattle.search_keys.specs.SearchKeys.{search_key, HasSearchKey}
-use Rattle.board.specs.Positions.{Position}
+use Rattle.board.specs.Boards.{BoardModel}
 use Rattle.worker_core.specs.Contexts.{ContextModel}
 use Rattle.worker_core.specs.Workers.{state_of, packets_of}
 use Rattle.worker_core.proofs.ExpandLemmas.{ready_own, ready_other, other_option, guided_met}
@@ -21,7 +21,7 @@ returns-then-offer-context-clause-guided g c = λ task guide ends adds is.
     let has = c.requires.1.keys.0 in
     let goal_is : c.context.inside.goal.now ≡ c.args.context.now.goal = ap (λ (x : ContextModel g.row.S.Denot). x.goal) c.context.view_is in
     let key : search_key task.goal ≡ c.key.result = ap search_key (ends ∙ sym goal_is) ∙ sym c.key.ensures.value in
-    guided_met task guide c.args.self.now.lists c.relax.new.self is offer c.args.via met same adds has.0 (subst (λ (b : Position). HasSearchKey b.grid offer.key has.0) (sym ends) has.1) c.relax.ensures.closed (c.relax.ensures.order guide (is.guides.ends ∙ key))
+    guided_met task guide c.args.self.now.lists c.relax.new.self is offer c.args.via met same adds has.0 (subst (λ (b : BoardModel). HasSearchKey b.grid offer.key has.0) (sym ends) has.1) c.relax.ensures.closed (c.relax.ensures.order guide (is.guides.ends ∙ key))
 
 pub returns-clause-ready : goal.returns-clause-ready
 returns-clause-ready g c = λ rest ready.
@@ -36,4 +36,4 @@ returns-clause-state g c = λ role sum item me is board last.
     let offer = c.args.offer.now in
     let me_is : c.context.inside.me ≡ context.me = ap (λ (x : ContextModel g.row.S.Denot). x.me) c.context.view_is in
     let shape : c.shape.result ≡ context.goal.grid = c.shape.ensures.value ∙ ap (λ (x : ContextModel g.row.S.Denot). x.goal.grid) c.context.view_is in
-    other_option role (state_of c.args.self.now) sum item offer is context.goal.grid board c.args.via last c.of_key.result (subst (λ (grid : Grid). HasSearchKey grid offer.key c.of_key.result) shape c.of_key.ensures) (λ own. c.if-offer-context.false (own ∙ me ∙ sym me_is)) (packets_of c.put_item.new.packets.items) c.put_item.ensures
+    other_option role (state_of c.args.self.now) sum item offer is context.goal.grid board c.args.via last c.of_key.result (subst (λ (grid : ShapeModel). HasSearchKey grid offer.key c.of_key.result) shape c.of_key.ensures) (λ own. c.if-offer-context.false (own ∙ me ∙ sym me_is)) (packets_of c.put_item.new.packets.items) c.put_item.ensures
