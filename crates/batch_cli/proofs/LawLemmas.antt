@@ -60,7 +60,7 @@ use Rattle.batch_cli.specs.declared.endings.Ending.TheVariants.{NoTexts, Refused
 use Rattle.batch_cli.specs.declared.commands.Command.{Command}
 use Rattle.batch_cli.specs.declared.commands.Command.TheVariants as command
 use Rattle.batch_cli.specs.Endings.{status_of, HasNotBegun, Tells as ReportsEnding}
-use Rattle.batch_cli.specs.Programs.{ending_of, after_flush, FlushesBehind, IsUnused, SolvesLines, CertifiesFirst, Judges, Draws, Rewrites, TakesSteps, ListsClass, ShowsText, EndsRun, EndsRequest, EndsBy, Runs}
+use Rattle.batch_cli.specs.Programs.{ending_of, after_flush, FlushesBehind, IsUnused, SolvesLines, CertifiesOne, Judges, Draws, Rewrites, TakesSteps, ListsClass, ShowsText, EndsRun, EndsRequest, EndsBy, Runs}
 use Rattle.batch_cli.specs.declared.faults.BatchFault.TheVariants.{Write}
 use Rattle.batch_cli.specs.Faults.{of_lines, of_certify, of_check, of_upgrade}
 use Rattle.batch_cli.specs.Headline.{IsTrue, IsTrueOf, IsTrueBy, RunsProgram, JudgesTruly, StatesTruth, DrawsTruly, UpgradesTruly, WritesReplay}
@@ -321,7 +321,7 @@ answered split rules truthful source sink (Err (certify.GroupsMemory wanting)) s
 answered split rules truthful source sink (Err certify.CertificateWrite) status told fine replies = absurd (omega (arith, told))
 
 module _ (source : Change SourceState) (sink : Change SinkState) (ending : Ending) (status : ℕ) (told : status ≡ status_of ending) where
-  certified : (setup : SetupModel) → EndsRun (CertifiesFirst source setup) sink ending → status < 2 → WritesAnswer setup.tables.split (certifying_rules_of setup) source sink
+  certified : (setup : SetupModel) → EndsRun (CertifiesOne source setup) sink ending → status < 2 → WritesAnswer setup.tables.split (certifying_rules_of setup) source sink
   certified setup ended fine =
       let last = from_to ended.between sink.after in
       let is = status_ran ended.ran last ending status ended.flush told (λ three. omega (arith, fine, three)) ∙ ap status_of ended.run.2 in

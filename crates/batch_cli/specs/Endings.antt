@@ -25,23 +25,23 @@ status_of (Faulted (CertificateMemory refused)) = 4
 status_of (Faulted CertificateWrite) = 3
 
 -- a line for standard error
-abbrev pub line_of : List ℕ → List ℕ
-line_of text = text ++ 10 ∷ []
+abbrev pub error_line_of : List ℕ → List ℕ
+error_line_of text = text ++ 10 ∷ []
 
 abbrev pub message_of : Ending → List ℕ
-message_of NoTexts = line_of (codes "error: invalid UTF-8 was detected in one or more arguments")
+message_of NoTexts = error_line_of (codes "error: invalid UTF-8 was detected in one or more arguments")
 message_of (Refused refusal) = refusal_message refusal
-message_of NoMemory = line_of (codes "tilesolve: memory")
+message_of NoMemory = error_line_of (codes "tilesolve: memory")
 message_of (Ran counts) = []
 message_of (Answered status) = []
 message_of Shown = []
-message_of (Faulted Read) = line_of (codes "tilesolve: B1")
-message_of (Faulted Write) = line_of (codes "tilesolve: B2")
-message_of (Faulted (Memory lacking)) = line_of (codes "tilesolve: B3")
-message_of (Faulted (GroupsMemory refused)) = line_of (codes "tilesolve: B3")
-message_of (Faulted CertificateRead) = line_of (codes "tilesolve: F6")
-message_of (Faulted (CertificateMemory refused)) = line_of (codes "tilesolve: F7")
-message_of (Faulted CertificateWrite) = line_of (codes "tilesolve: F8")
+message_of (Faulted Read) = error_line_of (codes "tilesolve: B1")
+message_of (Faulted Write) = error_line_of (codes "tilesolve: B2")
+message_of (Faulted (Memory lacking)) = error_line_of (codes "tilesolve: B3")
+message_of (Faulted (GroupsMemory refused)) = error_line_of (codes "tilesolve: B3")
+message_of (Faulted CertificateRead) = error_line_of (codes "tilesolve: F6")
+message_of (Faulted (CertificateMemory refused)) = error_line_of (codes "tilesolve: F7")
+message_of (Faulted CertificateWrite) = error_line_of (codes "tilesolve: F8")
 
 -- the message was written, or a beginning of it where the stream has failed; and the status is answered
 pub record Tells (errors : Change SinkState) (ending : Ending) (status : ℕ) : Type 0 where

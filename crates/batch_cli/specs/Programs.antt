@@ -52,8 +52,8 @@ abbrev pub SolvesLines : Change SourceState → SetupModel → Change SinkState 
 SolvesLines source setup sink ending = (result : Result Summary LinesFault) × ReportsLines (rules_of setup) source sink result × (ending ≡ ending_of Ran of_lines result)
 
 -- the first board is solved, and its certificate is written
-abbrev pub CertifiesFirst : Change SourceState → SetupModel → Change SinkState → Ending → Type 0
-CertifiesFirst source setup sink ending = (result : Result ℕ CertifyFault) × Replies setup.tables.split (certifying_rules_of setup) source sink result × (ending ≡ ending_of Answered of_certify result)
+abbrev pub CertifiesOne : Change SourceState → SetupModel → Change SinkState → Ending → Type 0
+CertifiesOne source setup sink ending = (result : Result ℕ CertifyFault) × Replies setup.tables.split (certifying_rules_of setup) source sink result × (ending ≡ ending_of Answered of_certify result)
 
 -- a certificate is checked
 abbrev pub Judges : Change SourceState → Change SinkState → Ending → Type 0
@@ -111,7 +111,7 @@ EndsSetup o runs source sink ending = ((setup : SetupModel) × IsSetupOf o setup
 -- how the program ends for what words ask for
 abbrev pub EndsRequest : Request → Change SourceState → Change SinkState → Ending → Type 0
 EndsRequest (Solve o) source sink ending = EndsSetup o (SolvesLines source) source sink ending
-EndsRequest (Certify o) source sink ending = EndsSetup o (CertifiesFirst source) source sink ending
+EndsRequest (Certify o) source sink ending = EndsSetup o (CertifiesOne source) source sink ending
 EndsRequest Check source sink ending = EndsRun (Judges source) sink ending
 EndsRequest (Draw style) source sink ending = EndsRun (Draws source style) sink ending
 EndsRequest Upgrade source sink ending = EndsRun (Rewrites source) sink ending
@@ -136,7 +136,7 @@ CanRun _ = ⊤
 -- a run of a command, without the flush that follows it
 abbrev pub Runs : Command → Change SourceState → Change SinkState → Ending → Type 0
 Runs (command.Solve setup progress stats) source sink ending = SolvesLines source setup sink ending
-Runs (command.Certify setup progress) source sink ending = CertifiesFirst source setup sink ending
+Runs (command.Certify setup progress) source sink ending = CertifiesOne source setup sink ending
 Runs command.Check source sink ending = Judges source sink ending
 Runs (command.Draw style) source sink ending = Draws source style sink ending
 Runs command.Upgrade source sink ending = Rewrites source sink ending

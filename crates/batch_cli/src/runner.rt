@@ -6,7 +6,7 @@ ghost use Rattle.byte_streams.specs.declared.sink.WriteFailed.{WriteFailed};
 ghost use Rattle.batch_runs.specs.Batches.{HasFailed};
 ghost use Rattle.board_lists.specs.Lists.{MayBeListed};
 ghost use Rattle.batch_cli.specs.Endings.{HasNotBegun};
-ghost use Rattle.batch_cli.specs.Programs.{SolvesLines, CertifiesFirst, Judges, Draws, Rewrites};
+ghost use Rattle.batch_cli.specs.Programs.{SolvesLines, CertifiesOne, Judges, Draws, Rewrites};
 ghost use Rattle.batch_cli.specs.Programs.{TakesSteps, ListsClass, ShowsText, FlushesBehind};
 ghost use Rattle.batch_cli.specs.Programs.{EndsBy, CanRun, Runs};
 ghost use Rattle.batch_cli.specs.Programs.{after_flush, prints_progress, prints_stats};
@@ -129,7 +129,7 @@ impl<'a, R: Threads + Wait + Sync, W: Watch + Sync> Runner<'a, R, W> {
         source: &mut S,
         sink: &mut K,
     ) -> Ending
-        ensures { CertifiesFirst (change S.state source.old source.new) setup.now
+        ensures { CertifiesOne (change S.state source.old source.new) setup.now
             (change K.state sink.old sink.new) result }
     {
         match run_cert(self.rt, self.alloc, source, sink, setup, watch) {

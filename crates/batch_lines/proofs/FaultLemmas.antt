@@ -9,7 +9,7 @@ use Rattle.std.proofs.lemmas.List.{append-nil, take_all, length-map, get_or-take
 use Rattle.std.proofs.Math.Seq.{take-nil}
 use Rattle.std.proofs.lemmas.List.Sums.{AllPass-from_list_all, list_all-from_AllPass}
 use Rattle.batch_lines.specs.TileNumbers.{tile_number}
-use Rattle.batch_lines.specs.Words.{words_of, id_of, tile_words, SpellsNumber, SpellEach, IsEntry, IsFirstWord, IsFirstWordFault, IsFirstEntryFault}
+use Rattle.batch_lines.specs.Words.{words_of, id_of, tile_words, SpellsDecimal, SpellEach, IsEntry, IsFirstWord, IsFirstWordFault, IsFirstEntryFault}
 use Rattle.batch_lines.proofs.WordLemmas.{words_none, first_and_others}
 use Rattle.std.proofs.lemmas.List.Elements.{All-head, All-tail, All-weaker}
 use Rattle.std.proofs.lemmas.Option.{slice_get_within, get_or_from_slice_get, slice_get-get_or}
@@ -60,7 +60,7 @@ digits_of_small true false value small = absurd (omega arith)
 digits_of_small false all value small = absurd (omega arith)
 
 -- a word with a number below 255 spells that number
-pub Spells-from_number : (word : List ℕ) → tile_number word < 255 → SpellsNumber word (tile_number word)
+pub Spells-from_number : (word : List ℕ) → tile_number word < 255 → SpellsDecimal word (tile_number word)
 Spells-from_number word small =
     let parts = digits_of_small (nat_lt 0 (length word)) (list_all is_ascii_digit word) (digits_value 10 word) small in
     record {
@@ -77,7 +77,7 @@ length_some [] some = absurd (some refl)
 length_some (b ∷ bs) some = omega arith
 
 -- the number of a word that spells one
-pub number-from_Spells : (word : List ℕ) (n : ℕ) → SpellsNumber word n → tile_number word ≡ min 255 n
+pub number-from_Spells : (word : List ℕ) (n : ℕ) → SpellsDecimal word n → tile_number word ≡ min 255 n
 number-from_Spells word n spells =
     let some : nat_lt 0 (length word) ≡ true = lt-ltb 0 (length word) (length_some word spells.some) in
     let all : list_all is_ascii_digit word ≡ true = list_all-from_AllPass is_ascii_digit word (λ k d l. tested (get_or word k d) (spells.digits k d l)) in
@@ -144,7 +144,7 @@ first_place grid words place few first =
           let e : tile_number two.0 ≡ tile_number one.0 = sym (number_before words place k d two.0 before two.1) ∙ sym same ∙ number_before words place j d one.0 (omega arith) one.1 in
           let one_low : tile_number one.0 < 255 = omega (arith, one.2) in
           let two_low : tile_number two.0 < 255 = omega (arith, two.2) in
-          first.different j k one.0 two.0 (tile_number one.0) below before one.1 two.1 (Spells-from_number one.0 one_low) (subst (λ (n : ℕ). SpellsNumber two.0 n) e (Spells-from_number two.0 two_low));
+          first.different j k one.0 two.0 (tile_number one.0) below before one.1 two.1 (Spells-from_number one.0 one_low) (subst (λ (n : ℕ). SpellsDecimal two.0 n) e (Spells-from_number two.0 two_low));
     }
 
 out_of_range : (grid : ShapeModel) (words : List (List ℕ)) (place : ℕ) → cell_count grid ≤ 25 → IsFirstTilesFault grid (map tile_number words) (TileOutOfRange place) ↔ IsFirstWordFault grid words (TileOutOfRange place)
@@ -172,7 +172,7 @@ repeated grid words place few = (
       let earlier = word_before grid words place k few first before in
       let same : tile_number earlier.0 ≡ tile_number (get_or words place []) = sym (number_before words place k (get_or (map tile_number words) place 0) earlier.0 before earlier.1) ∙ fault.2.2 ∙ is in
       let earlier_low : tile_number earlier.0 < 255 = omega (arith, earlier.2) in
-      (get_or words place [], tile_number (get_or words place []), k, earlier.0, first, at, Spells-from_number (get_or words place []) (omega arith), low, before, earlier.1, subst (λ (n : ℕ). SpellsNumber earlier.0 n) same (Spells-from_number earlier.0 earlier_low))),
+      (get_or words place [], tile_number (get_or words place []), k, earlier.0, first, at, Spells-from_number (get_or words place []) (omega arith), low, before, earlier.1, subst (λ (n : ℕ). SpellsDecimal earlier.0 n) same (Spells-from_number earlier.0 earlier_low))),
   (λ fault.
       let first = first_place grid words place few fault.4 in
       let is = number_at words place fault.0 fault.5 ∙ number-from_Spells fault.0 fault.1 fault.6 in

@@ -4,7 +4,7 @@ use Rattle.std.proofs.lemmas.Bool.{ne_eqb, eq-eqb, lt-ltb, le-ltb, false≢true}
 use Rattle.batch_lines.specs.declared.lines.LineKind.TheVariants.{PassedOver, Within, TooLong}
 use Rattle.batch_lines.specs.declared.lines.Start.{Start}
 use Rattle.batch_lines.specs.declared.lines.Start.TheVariants.{Blanks, Comment, Words}
-use Rattle.batch_lines.specs.Lines.{without_return, is_passed_over, kind_of, lines_of, onto_first}
+use Rattle.batch_lines.specs.Lines.{without_return, is_passed_over, line_kind_of, lines_of, onto_first}
 use Rattle.batch_lines.specs.Starts.{start_after, start_of, passes, IsScanned}
 use Rattle.batch_lines.specs.declared.lines.Scan.{Scan}
 use Rattle.batch_lines.specs.declared.lines.TheConstants.{LINE_LIMIT, KEPT, INPUT_LIMIT}
@@ -38,13 +38,13 @@ pub start_more : (start : Start) (bs : List ℕ) (b : ℕ) → start_of start (b
 start_more start [] b = refl
 start_more start (c ∷ bs) b = start_more (start_after start c) bs b
 
-pub kind_of-passed : (line : List ℕ) → passes (start_of Blanks line) ≡ true → kind_of line ≡ PassedOver
+pub kind_of-passed : (line : List ℕ) → passes (start_of Blanks line) ≡ true → line_kind_of line ≡ PassedOver
 kind_of-passed line passed = rw (passed_over_is line, passed) refl
 
-pub kind_of-long : (line : List ℕ) → passes (start_of Blanks line) ≡ false → LINE_LIMIT < length (without_return line) → kind_of line ≡ TooLong
+pub kind_of-long : (line : List ℕ) → passes (start_of Blanks line) ≡ false → LINE_LIMIT < length (without_return line) → line_kind_of line ≡ TooLong
 kind_of-long line answered long = rw (passed_over_is line, answered, lt-ltb LINE_LIMIT (length (without_return line)) long) refl
 
-pub kind_of-within : (line : List ℕ) → passes (start_of Blanks line) ≡ false → length (without_return line) ≤ LINE_LIMIT → kind_of line ≡ Within
+pub kind_of-within : (line : List ℕ) → passes (start_of Blanks line) ≡ false → length (without_return line) ≤ LINE_LIMIT → line_kind_of line ≡ Within
 kind_of-within line answered short = rw (passed_over_is line, answered, le-ltb LINE_LIMIT (length (without_return line)) short) refl
 
 -- no more than one byte is dropped

@@ -30,5 +30,5 @@ is_passed_over [] = true
 is_passed_over (b ∷ bs) = if is_blank b then is_passed_over bs else b == 35
 
 -- what is to be done with a line: first a carriage return is dropped, then it is passed over whatever its length, then its length is judged
-abbrev pub kind_of : List ℕ → LineKind
-kind_of line = if is_passed_over (without_return line) then PassedOver else if nat_lt LINE_LIMIT (length (without_return line)) then TooLong else Within
+abbrev pub line_kind_of : List ℕ → LineKind
+line_kind_of line = if is_passed_over (without_return line) then PassedOver else if nat_lt LINE_LIMIT (length (without_return line)) then TooLong else Within

@@ -4,7 +4,7 @@ use Rattle.std.specs.List.{AllByRecursion}
 use Rattle.byte_streams.specs.Streams.{SourceState, Change}
 use Rattle.byte_streams.specs.Source.{Takes, IsEnded, ReadsOn}
 use Rattle.byte_streams.specs.declared.source.ReadFailed.{ReadFailed}
-use Rattle.batch_lines.specs.Lines.{lines_of, without_return, kind_of}
+use Rattle.batch_lines.specs.Lines.{lines_of, without_return, line_kind_of}
 use Rattle.batch_lines.specs.Starts.{IsScanned}
 use Rattle.batch_lines.specs.declared.lines.Line.{Line}
 use Rattle.batch_lines.specs.declared.lines.LineKind.{LineKind}
@@ -39,7 +39,7 @@ TakesLine source line = TakesKnown source.before.left source.after.left line
 
 -- a line of these bytes is judged: its kind, and where it is within the limit its bytes are kept, without a carriage return at their end
 pub record IsJudged (line : List ℕ) (kind : LineKind) (kept : List ℕ) : Type 0 where
-  pub judged : kind ≡ kind_of line
+  pub judged : kind ≡ line_kind_of line
   pub whole : kind ≡ Within → kept ≡ without_return line
 
 -- each byte that is taken is counted, where what is left is known

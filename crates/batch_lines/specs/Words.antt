@@ -27,7 +27,7 @@ tile_words [] = []
 tile_words (id ∷ tiles) = tiles
 
 -- the word is one or more digits and nothing else, and they have this value; leading zeros count for nothing
-pub record SpellsNumber (word : List ℕ) (n : ℕ) : Type 0 where
+pub record SpellsDecimal (word : List ℕ) (n : ℕ) : Type 0 where
   pub some : word ≢ []
   pub digits : All IsAsciiDigit word
   pub value : digits_value 10 word ≡ n
@@ -37,7 +37,7 @@ abbrev pub SpellEach : List (List ℕ) → List ℕ → Type 0
 SpellEach [] [] = Unit {0}
 SpellEach [] (n ∷ ns) = ⊥
 SpellEach (word ∷ words) [] = ⊥
-SpellEach (word ∷ words) (n ∷ ns) = SpellsNumber word n × SpellEach words ns
+SpellEach (word ∷ words) (n ∷ ns) = SpellsDecimal word n × SpellEach words ns
 
 -- the line is a text; its first word is the id, and the others spell the tiles of the board
 pub record IsEntry (grid : ShapeModel) (line id : List ℕ) (b : BoardModel) : Type 0 where
@@ -51,16 +51,16 @@ pub record IsEntry (grid : ShapeModel) (line id : List ℕ) (b : BoardModel) : T
 pub record IsFirstWord (grid : ShapeModel) (words : List (List ℕ)) (place : ℕ) : Type 0 where
   pub one_each : length words ≡ cell_count grid
   pub within : place < length words
-  pub in_range : (k : ℕ) (word : List ℕ) → k < place → slice_get words k ≡ Some word → (n : ℕ) × SpellsNumber word n × (n < cell_count grid)
-  pub different : (j k : ℕ) (first second : List ℕ) (n : ℕ) → j < k → k < place → slice_get words j ≡ Some first → slice_get words k ≡ Some second → SpellsNumber first n → ¬ SpellsNumber second n
+  pub in_range : (k : ℕ) (word : List ℕ) → k < place → slice_get words k ≡ Some word → (n : ℕ) × SpellsDecimal word n × (n < cell_count grid)
+  pub different : (j k : ℕ) (first second : List ℕ) (n : ℕ) → j < k → k < place → slice_get words j ≡ Some first → slice_get words k ≡ Some second → SpellsDecimal first n → ¬ SpellsDecimal second n
 
 -- the first fault of tile words: their count, else that of the first offending place
 abbrev pub IsFirstWordFault : ShapeModel → List (List ℕ) → TilesFault → Type 0
 IsFirstWordFault grid words WrongCount = length words ≢ cell_count grid
 IsFirstWordFault grid words (TileOutOfRange place) =
-    (word : List ℕ) × IsFirstWord grid words place × (slice_get words place ≡ Some word) × ((n : ℕ) → SpellsNumber word n → cell_count grid ≤ n)
+    (word : List ℕ) × IsFirstWord grid words place × (slice_get words place ≡ Some word) × ((n : ℕ) → SpellsDecimal word n → cell_count grid ≤ n)
 IsFirstWordFault grid words (TileRepeated place) =
-    (word : List ℕ) × (n k : ℕ) × (before : List ℕ) × IsFirstWord grid words place × (slice_get words place ≡ Some word) × SpellsNumber word n × (n < cell_count grid) × (k < place) × (slice_get words k ≡ Some before) × SpellsNumber before n
+    (word : List ℕ) × (n k : ℕ) × (before : List ℕ) × IsFirstWord grid words place × (slice_get words place ≡ Some word) × SpellsDecimal word n × (n < cell_count grid) × (k < place) × (slice_get words k ≡ Some before) × SpellsDecimal before n
 
 -- the first fault of a line: that it is no text, else that of its tile words
 abbrev pub IsFirstEntryFault : ShapeModel → List ℕ → EntryFault → Type 0

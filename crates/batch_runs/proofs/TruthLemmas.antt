@@ -15,8 +15,8 @@ use Rattle.outcomes.specs.Outcomes.{Task, best_of}
 use Rattle.outcomes.specs.Endings.{EndAnswers}
 use Rattle.outcomes.specs.declared.outcome.Ending.{Ending}
 use Rattle.outcomes.specs.declared.outcome.Ending.TheVariants.{Optimal, Unsolvable, Bounded}
-use Rattle.batch_lines.specs.Lines.{without_return, lines_of, onto_first, is_passed_over, kind_of}
-use Rattle.batch_lines.specs.Words.{IsEntry, SpellsNumber, SpellEach, words_of, tile_words, IsFirstWordFault, IsFirstEntryFault, entry_code}
+use Rattle.batch_lines.specs.Lines.{without_return, lines_of, onto_first, is_passed_over, line_kind_of}
+use Rattle.batch_lines.specs.Words.{IsEntry, SpellsDecimal, SpellEach, words_of, tile_words, IsFirstWordFault, IsFirstEntryFault, entry_code}
 use Rattle.batch_lines.specs.declared.words.EntryFault.{EntryFault}
 use Rattle.batch_lines.specs.declared.words.EntryFault.TheVariants.{NoText, NoBoard}
 use Rattle.batch_lines.specs.declared.lines.LineKind.{LineKind}
@@ -59,10 +59,10 @@ word_or None = []
 word_or (Some word) = word
 
 -- the word at a place spells the number there
-spelled_at : (words : List (List ℕ)) (ns : List ℕ) (k : ℕ) (word : List ℕ) → SpellEach words ns → slice_get words k ≡ Some word → (n : ℕ) × (slice_get ns k ≡ Some n) × SpellsNumber word n
+spelled_at : (words : List (List ℕ)) (ns : List ℕ) (k : ℕ) (word : List ℕ) → SpellEach words ns → slice_get words k ≡ Some word → (n : ℕ) × (slice_get ns k ≡ Some n) × SpellsDecimal word n
 spelled_at [] ns k word h e = absurd (cc)
 spelled_at (w ∷ words) [] k word h e = absurd h
-spelled_at (w ∷ words) (n ∷ ns) zero word h e = (n, refl, subst (λ (v : List ℕ). SpellsNumber v n) (ap word_or e) h.0)
+spelled_at (w ∷ words) (n ∷ ns) zero word h e = (n, refl, subst (λ (v : List ℕ). SpellsDecimal v n) (ap word_or e) h.0)
 spelled_at (w ∷ words) (n ∷ ns) (suc k) word h e = spelled_at words ns k word h.1 e
 
 spelled_length : (words : List (List ℕ)) (ns : List ℕ) → SpellEach words ns → length words ≡ length ns
@@ -118,17 +118,17 @@ feed_ends (b ∷ bs) rest none = rw (ne_eqb b 10 none.0) (ap (onto_first b) (fee
 report_first : (d : Data) (rest : List ℕ) → lines_of (report_text d ++ rest) ≡ compact_text d ∷ lines_of rest
 report_first d rest = ap lines_of (append_assoc (compact_text d) (10 ∷ []) rest) ∙ feed_ends (compact_text d) rest (text_other d)
 
-kind_over : (line : List ℕ) → is_passed_over (without_return line) ≡ true → kind_of line ≡ PassedOver
+kind_over : (line : List ℕ) → is_passed_over (without_return line) ≡ true → line_kind_of line ≡ PassedOver
 kind_over line e = rw e refl
 
 either_kind : (b : Bool) → (cond b TooLong Within ≡ TooLong) ⊎ (cond b TooLong Within ≡ Within)
 either_kind true = inl refl
 either_kind false = inr refl
 
-kind_asks : (line : List ℕ) → is_passed_over (without_return line) ≡ false → (kind_of line ≡ TooLong) ⊎ (kind_of line ≡ Within)
+kind_asks : (line : List ℕ) → is_passed_over (without_return line) ≡ false → (line_kind_of line ≡ TooLong) ⊎ (line_kind_of line ≡ Within)
 kind_asks line e =
     let long = nat_lt LINE_LIMIT (length (without_return line)) in
-    let is : kind_of line ≡ cond long TooLong Within = rw e refl in
+    let is : line_kind_of line ≡ cond long TooLong Within = rw e refl in
     subst (λ (kind : LineKind). (kind ≡ TooLong) ⊎ (kind ≡ Within)) (sym is) (either_kind long)
 
 -- ---- what is told of a line
@@ -166,12 +166,12 @@ module _ (rules : Rules) (S : Type 0) where
   abbrev HasReport : ℕ → List ℕ → Answer → Type 0
   HasReport n line answer = (d : Data) × (answer_text n answer ≡ report_text d) × Tells rules n line d × (IsSettledAnswer answer → IsSettledData d)
 
-  entry_told : (n : ℕ) (line : List ℕ) (answer : Answer) → IsSmall n → kind_of line ≡ Within → AnswersEntry rules (without_return line) answer → HasReport n line answer
+  entry_told : (n : ℕ) (line : List ℕ) (answer : Answer) → IsSmall n → line_kind_of line ≡ Within → AnswersEntry rules (without_return line) answer → HasReport n line answer
   entry_told n line answer small within (by_fault fault first) = (refused_data (entry_code fault) n, refl, of_fault (entry_code fault) small (inr (within, (fault, first, refl))), λ is. absurd is)
   entry_told n line answer small within (by_outcome id b outcome entry allowed fits) = (outcome_data id outcome, refl, of_board id b outcome (within, entry) allowed fits, outcome_settled id outcome)
   entry_told n line answer small within (by_want id b entry lacking) = (refused_data (codes "V3") n, refl, of_want id b small (within, entry) lacking, λ is. absurd is)
 
-  line_told : (n : ℕ) (line : List ℕ) (answer : Answer) → IsSmall n → AnswersLine rules line answer → (kind_of line ≡ TooLong) ⊎ (kind_of line ≡ Within) → HasReport n line answer
+  line_told : (n : ℕ) (line : List ℕ) (answer : Answer) → IsSmall n → AnswersLine rules line answer → (line_kind_of line ≡ TooLong) ⊎ (line_kind_of line ≡ Within) → HasReport n line answer
   line_told n line answer small is (inl long) =
       let here : answer ≡ refused (codes "E12") = subst (λ (kind : LineKind). AnswersKind rules kind (without_return line) answer) long is in
       (refused_data (codes "E12") n, ap (answer_text n) here, of_fault (codes "E12") small (inl (long, refl)), λ settled. absurd (subst IsSettledAnswer here settled))

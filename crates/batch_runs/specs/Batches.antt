@@ -6,7 +6,7 @@ use Rattle.board.specs.Boards.{BoardModel}
 use Rattle.byte_streams.specs.Streams.{SourceState, SinkState, Change, from_to}
 use Rattle.byte_streams.specs.Source.{Takes}
 use Rattle.byte_streams.specs.Sink.{Puts, PutsBeginning}
-use Rattle.batch_lines.specs.Lines.{lines_of, without_return, kind_of}
+use Rattle.batch_lines.specs.Lines.{lines_of, without_return, line_kind_of}
 use Rattle.batch_lines.specs.Readings.{TakesNoLine, CountsTaken}
 use Rattle.batch_lines.specs.Words.{IsEntry, IsFirstEntryFault, entry_code}
 use Rattle.batch_lines.specs.declared.words.EntryFault.{EntryFault}
@@ -65,7 +65,7 @@ AnswersKind rules Within bytes answer = AnswersEntry rules bytes answer
 
 -- the answer to a line
 abbrev pub AnswersLine : Rules → List ℕ → Answer → Type 0
-AnswersLine rules line answer = AnswersKind rules (kind_of line) (without_return line) answer
+AnswersLine rules line answer = AnswersKind rules (line_kind_of line) (without_return line) answer
 
 -- an answer to each of the lines, in their order
 abbrev pub AnswersLines : Rules → List (List ℕ) → List Answer → Type 0

@@ -2,7 +2,7 @@
 use Rattle.std.specs.Prelude.{ℕ, ◌≡◌, ◌+◌, ◌^◌, ◌<◌, List, [], ◌∷◌, ◌++◌, length, Option, None, Some, Result, Ok, Err, All}
 use Rattle.byte_streams.specs.Streams.{SourceState, Change, from_to}
 use Rattle.byte_streams.specs.declared.source.ReadFailed.{ReadFailed}
-use Rattle.batch_lines.specs.Lines.{kind_of}
+use Rattle.batch_lines.specs.Lines.{line_kind_of}
 use Rattle.batch_lines.specs.Readings.{LineReaderModel, CountsTaken, IsJudged}
 use Rattle.batch_lines.specs.declared.lines.Line.{Line}
 use Rattle.batch_lines.specs.declared.lines.LineKind.TheVariants.{PassedOver}
@@ -10,7 +10,7 @@ use Rattle.batch_runs.specs.Batches.{AreRead, AreAll, TakesSome, LosesLine, IsRe
 
 -- the line is passed over
 abbrev pub IsPassedOver : List ℕ → Type 0
-IsPassedOver line = kind_of line ≡ PassedOver
+IsPassedOver line = line_kind_of line ≡ PassedOver
 
 -- these are the lines that were read whole since the input began, and the reader has counted them and their bytes
 pub record HasRead (source : Change SourceState) (reader : LineReaderModel) (lines : List (List ℕ)) : Type 0 where

@@ -5,7 +5,7 @@ use Rattle.board.specs.Shapes.{ShapeModel}
 use Rattle.board.specs.Boards.{BoardModel}
 use Rattle.board.specs.Plans.{Leads, IsLeast, NothingBelow}
 use Rattle.board.specs.declared.moves.Move.{Move}
-use Rattle.batch_lines.specs.Lines.{lines_of, without_return, is_passed_over, kind_of}
+use Rattle.batch_lines.specs.Lines.{lines_of, without_return, is_passed_over, line_kind_of}
 use Rattle.batch_lines.specs.Words.{IsEntry, IsFirstEntryFault, entry_code}
 use Rattle.batch_lines.specs.declared.words.EntryFault.{EntryFault}
 use Rattle.batch_lines.specs.declared.lines.LineKind.TheVariants.{Within, TooLong}
@@ -33,12 +33,12 @@ IsQuestion lines k n line = slice_get (questions 1 lines) k ≡ Some (n, line)
 
 -- the line names this board by this id: it is within the limit, and its words are the id and the tiles of the board
 abbrev pub Names : ShapeModel → List ℕ → List ℕ → BoardModel → Type 0
-Names grid line id b = (kind_of line ≡ Within) × IsEntry grid (without_return line) id b
+Names grid line id b = (line_kind_of line ≡ Within) × IsEntry grid (without_return line) id b
 
 -- the line has a fault with this code: it is too long, or this is the first fault of its words
 abbrev pub HasFault : ShapeModel → List ℕ → List ℕ → Type 0
 HasFault grid line code =
-    ((kind_of line ≡ TooLong) × (code ≡ codes "E12")) ⊎ ((kind_of line ≡ Within) × ((fault : EntryFault) × IsFirstEntryFault grid (without_return line) fault × (code ≡ entry_code fault)))
+    ((line_kind_of line ≡ TooLong) × (code ≡ codes "E12")) ⊎ ((line_kind_of line ≡ Within) × ((fault : EntryFault) × IsFirstEntryFault grid (without_return line) fault × (code ≡ entry_code fault)))
 
 -- ---- what a line of the output says
 

@@ -51,5 +51,5 @@ owner_by Zobrist = owner_by_hash
 owner_by Blank = owner_by_blank
 
 -- what is asked of a board: the plans from it to the setup's goal, at the setup's costs
-abbrev pub task_of : SetupModel → BoardModel → Task
-task_of setup start = record { start = start; goal = setup.goal; rule = setup.rule; sum = sum_of (parts_of setup.tables) }
+abbrev pub task_of_setup : SetupModel → BoardModel → Task
+task_of_setup setup start = record { start = start; goal = setup.goal; rule = setup.rule; sum = sum_of (parts_of setup.tables) }

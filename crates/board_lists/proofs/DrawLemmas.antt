@@ -10,7 +10,7 @@ use Rattle.board.specs.Shapes.{ShapeModel, cell_count}
 use Rattle.board.specs.Boards.{BoardModel, IsBoard, blank_of}
 use Rattle.board.specs.Classes.{inversions, taxicab, SameClass}
 use Rattle.board.proofs.MoveLemmas.{exchange_board}
-use Rattle.board_lists.specs.Classes.{turned}
+use Rattle.board_lists.specs.Classes.{in_other_class}
 
 -- a board with other tiles
 abbrev pub tiled : BoardModel → List ℕ → BoardModel
@@ -28,7 +28,7 @@ turned_either b true x y = x
 turned_either b false x y = y
 
 -- so is a board with two tiles exchanged
-pub turned_board : (b : BoardModel) → IsBoard b → 4 ≤ cell_count b.grid → IsBoard (tiled b (turned b.tiles))
+pub turned_board : (b : BoardModel) → IsBoard b → 4 ≤ cell_count b.grid → IsBoard (tiled b (in_other_class b.tiles))
 turned_board b board some =
     turned_either b ((slice_index b.tiles 0 == 0) || (slice_index b.tiles 1 == 0)) (exchange_board b 2 3 board (omega arith) (omega arith)) (exchange_board b 0 1 board (omega arith) (omega arith))
 
@@ -47,10 +47,10 @@ shuffled_front b grid n array tiles behind board sides count held shuffled =
     subst IsBoard (λ i. record { grid = sym sides i; tiles = sym front i }) is
 
 -- and where two tiles of one were exchanged there
-pub turned_front : (b : BoardModel) (grid : ShapeModel) (n : ℕ) (array tiles behind : List ℕ) → IsBoard b → grid ≡ b.grid → n ≡ cell_count grid → 4 ≤ n → take (cell_count b.grid) array ≡ b.tiles → tiles ≡ turned (take n array) → IsBoard (record { grid = grid; tiles = take n (tiles ++ behind) }) × (take n (tiles ++ behind) ≡ turned b.tiles)
+pub turned_front : (b : BoardModel) (grid : ShapeModel) (n : ℕ) (array tiles behind : List ℕ) → IsBoard b → grid ≡ b.grid → n ≡ cell_count grid → 4 ≤ n → take (cell_count b.grid) array ≡ b.tiles → tiles ≡ in_other_class (take n array) → IsBoard (record { grid = grid; tiles = take n (tiles ++ behind) }) × (take n (tiles ++ behind) ≡ in_other_class b.tiles)
 turned_front b grid n array tiles behind board sides count some held turn =
     let all : n ≡ cell_count b.grid = count ∙ ap cell_count sides in
-    let is : tiles ≡ turned b.tiles = turn ∙ ap turned (ap (λ (k : ℕ). take k array) all ∙ held) in
+    let is : tiles ≡ in_other_class b.tiles = turn ∙ ap in_other_class (ap (λ (k : ℕ). take k array) all ∙ held) in
     let whole = turned_board b board (omega arith) in
     let front : take n (tiles ++ behind) ≡ tiles = take_front n tiles behind (ap length is ∙ whole.one_each ∙ sym all) in
     (subst IsBoard (λ i. record { grid = sym sides i; tiles = sym (front ∙ is) i }) whole, front ∙ is)
@@ -121,7 +121,7 @@ record Turns (tiles after : List ℕ) : Type 0 where
   blank : place_of after ≡ place_of tiles
 
 -- what is known of a test of the first two numbers
-early : (v w x y : ℕ) (rest : List ℕ) → v ≢ 0 → w ≢ 0 → (turned (v ∷ w ∷ x ∷ y ∷ rest) ≡ w ∷ v ∷ x ∷ y ∷ rest) × (place_of (w ∷ v ∷ x ∷ y ∷ rest) ≡ place_of (v ∷ w ∷ x ∷ y ∷ rest))
+early : (v w x y : ℕ) (rest : List ℕ) → v ≢ 0 → w ≢ 0 → (in_other_class (v ∷ w ∷ x ∷ y ∷ rest) ≡ w ∷ v ∷ x ∷ y ∷ rest) × (place_of (w ∷ v ∷ x ∷ y ∷ rest) ≡ place_of (v ∷ w ∷ x ∷ y ∷ rest))
 unfolding place_of
 early v w x y rest vn wn = rw (ne_eqb v 0 vn, ne_eqb w 0 wn) (refl, refl)
 
@@ -129,12 +129,12 @@ second : (b : Bool) (v w x y : ℕ) (rest : List ℕ) → w ≡ 0 → (cond (b |
 second true v w x y rest e = (refl, refl)
 second false v w x y rest e = rw e (refl, refl)
 
-late : (v w x y : ℕ) (rest : List ℕ) → ((v ≡ 0) ⊎ (w ≡ 0)) → (turned (v ∷ w ∷ x ∷ y ∷ rest) ≡ v ∷ w ∷ y ∷ x ∷ rest) × (place_of (v ∷ w ∷ y ∷ x ∷ rest) ≡ place_of (v ∷ w ∷ x ∷ y ∷ rest))
+late : (v w x y : ℕ) (rest : List ℕ) → ((v ≡ 0) ⊎ (w ≡ 0)) → (in_other_class (v ∷ w ∷ x ∷ y ∷ rest) ≡ v ∷ w ∷ y ∷ x ∷ rest) × (place_of (v ∷ w ∷ y ∷ x ∷ rest) ≡ place_of (v ∷ w ∷ x ∷ y ∷ rest))
 unfolding place_of
 late v w x y rest (inl e) = rw e (refl, refl)
 late v w x y rest (inr e) = second (eqb v 0) v w x y rest e
 
-turns : (v w x y : ℕ) (rest : List ℕ) → v ≢ w → x ≢ y → Turns (v ∷ w ∷ x ∷ y ∷ rest) (turned (v ∷ w ∷ x ∷ y ∷ rest))
+turns : (v w x y : ℕ) (rest : List ℕ) → v ≢ w → x ≢ y → Turns (v ∷ w ∷ x ∷ y ∷ rest) (in_other_class (v ∷ w ∷ x ∷ y ∷ rest))
 turns v w x y rest first next = elim (cases_eq v 0) [
   | inl e ↦ moved (v ∷ w ∷ y ∷ x ∷ rest) (late v w x y rest (inl e)) (next_two v w x y rest next)
   | inr vn ↦ elim (cases_eq w 0) [
@@ -143,10 +143,10 @@ turns v w x y rest first next = elim (cases_eq v 0) [
   ]
 ]
   where
-    moved : (after : List ℕ) → (turned (v ∷ w ∷ x ∷ y ∷ rest) ≡ after) × (place_of after ≡ place_of (v ∷ w ∷ x ∷ y ∷ rest)) → (inversions (v ∷ w ∷ x ∷ y ∷ rest) + inversions after) % 2 ≡ 1 → Turns (v ∷ w ∷ x ∷ y ∷ rest) (turned (v ∷ w ∷ x ∷ y ∷ rest))
+    moved : (after : List ℕ) → (in_other_class (v ∷ w ∷ x ∷ y ∷ rest) ≡ after) × (place_of after ≡ place_of (v ∷ w ∷ x ∷ y ∷ rest)) → (inversions (v ∷ w ∷ x ∷ y ∷ rest) + inversions after) % 2 ≡ 1 → Turns (v ∷ w ∷ x ∷ y ∷ rest) (in_other_class (v ∷ w ∷ x ∷ y ∷ rest))
     moved after is odd = subst (Turns (v ∷ w ∷ x ∷ y ∷ rest)) (sym is.0) (record { odd = odd; blank = is.1 })
 
-turns_all : (tiles : List ℕ) → 4 ≤ length tiles → AllPairs (λ x y. x ≢ y) tiles → Turns tiles (turned tiles)
+turns_all : (tiles : List ℕ) → 4 ≤ length tiles → AllPairs (λ x y. x ≢ y) tiles → Turns tiles (in_other_class tiles)
 turns_all [] some different = absurd (omega arith)
 turns_all (v ∷ []) some different = absurd (omega arith)
 turns_all (v ∷ w ∷ []) some different = absurd (omega arith)
@@ -154,15 +154,15 @@ turns_all (v ∷ w ∷ x ∷ []) some different = absurd (omega arith)
 turns_all (v ∷ w ∷ x ∷ y ∷ rest) some different = turns v w x y rest (different 0 1 0 (omega arith) (omega arith)) (different 2 3 0 (omega arith) (omega arith))
 
 -- a board that isn't in the class of q enters it by the exchange of two tiles
-pub turned_class : (b q : BoardModel) → IsBoard b → 4 ≤ cell_count b.grid → ¬ SameClass b q → SameClass (tiled b (turned b.tiles)) q
+pub turned_class : (b q : BoardModel) → IsBoard b → 4 ≤ cell_count b.grid → ¬ SameClass b q → SameClass (tiled b (in_other_class b.tiles)) q
 unfolding place_of
 turned_class b q board some other =
     let n = board.one_each in
     let turn = turns_all b.tiles (omega arith) board.different in
     let odd = turn.odd in
-    let blank : blank_of (tiled b (turned b.tiles)) ≡ blank_of b = turn.blank in
-    let far : taxicab b.grid (blank_of (tiled b (turned b.tiles))) (blank_of q) ≡ taxicab b.grid (blank_of b) (blank_of q) = rw blank refl in
-    opposite_parity (inversions b.tiles) (inversions (turned b.tiles)) (inversions q.tiles) (taxicab b.grid (blank_of b) (blank_of q)) (taxicab b.grid (blank_of (tiled b (turned b.tiles))) (blank_of q)) odd far other
+    let blank : blank_of (tiled b (in_other_class b.tiles)) ≡ blank_of b = turn.blank in
+    let far : taxicab b.grid (blank_of (tiled b (in_other_class b.tiles))) (blank_of q) ≡ taxicab b.grid (blank_of b) (blank_of q) = rw blank refl in
+    opposite_parity (inversions b.tiles) (inversions (in_other_class b.tiles)) (inversions q.tiles) (taxicab b.grid (blank_of b) (blank_of q)) (taxicab b.grid (blank_of (tiled b (in_other_class b.tiles))) (blank_of q)) odd far other
   where
     opposite_parity : (i j k far far' : ℕ) → (i + j) % 2 ≡ 1 → far' ≡ far → ¬ ((i + k) % 2 ≡ far % 2) → (j + k) % 2 ≡ far' % 2
     opposite_parity i j k far far' odd same not = omega arith

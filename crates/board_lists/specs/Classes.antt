@@ -23,8 +23,8 @@ pub record AreWholeClass (goal : BoardModel) (boards : List BoardModel) : Type 0
   pub rising : AllPairs (λ x y. key_of x < key_of y) boards
 
 -- the first two numbers exchanged, or the next two where one of these is the blank
-abbrev pub turned : List ℕ → List ℕ
-turned tiles = if (slice_index tiles 0 == 0) || (slice_index tiles 1 == 0) then swap tiles 2 3 else swap tiles 0 1
+abbrev pub in_other_class : List ℕ → List ℕ
+in_other_class tiles = if (slice_index tiles 0 == 0) || (slice_index tiles 1 == 0) then swap tiles 2 3 else swap tiles 0 1
 
 -- the board whose tiles have this place, from 0 on
 abbrev pub board_at : ShapeModel → ℕ → BoardModel

@@ -5,7 +5,7 @@ ghost use Rattle.board.specs.Shapes.{cell_count};
 ghost use Rattle.board.specs.Boards.{BoardModel, IsBoard};
 ghost use Rattle.board.specs.Classes.{SameClass};
 ghost use Rattle.board_lists.specs.Classes.{IsOfClass};
-ghost use Rattle.board_lists.specs.Classes.{turned};
+ghost use Rattle.board_lists.specs.Classes.{in_other_class};
 
 use board::{Board, same_class};
 use rand::seq::SliceRandom;
@@ -53,7 +53,7 @@ fn turn(board: &Board) -> Board
 // Exchanges the first two tiles, or the next two where the blank is one of these.
 fn exchange(tiles: &mut [u8])
     requires { 4 ≤ length tiles.old }
-    ensures { tiles.new ≡ turned tiles.old }
+    ensures { tiles.new ≡ in_other_class tiles.old }
 {
     if tiles[0] == 0 || tiles[1] == 0 {
         tiles.swap(2, 3);

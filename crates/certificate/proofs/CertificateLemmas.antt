@@ -14,7 +14,7 @@ use Rattle.certificate.specs.declared.faults.FormatFault.{FormatFault}
 use Rattle.certificate.specs.declared.faults.FormatFault.TheVariants.{OutOfRange, BytesAfterEnd}
 use Rattle.certificate.specs.Certificates.{CertificateModel, Allows, IsSplitOf, IsBoardOf, IsRow, RiseAfter, IsCertificate}
 use Rattle.certificate.specs.Spellings.{claim_of, beginning_text, opening_text, count_text, group_text, groups_text, claimed_text, row_text, body_text, front_text, heading, announcement, spelling, Spells}
-use Rattle.certificate.specs.Readings.{◌>>=◌, next_reading, give, byte_within, byte_in, count, count_in, board, beginning, opening, groups, all_groups, claimed, rows, all_rows, end, body, front, certificate, IsFaultAt}
+use Rattle.certificate.specs.Readings.{◌>>=◌, next_reading, give, byte_within, byte_in, count, count_in, board, beginning, opening_fields, groups, all_groups, claimed, rows, all_rows, end, body, front, certificate, IsFaultAt}
 use Rattle.certificate.specs.Laws.{AreBytes, Begins, AnnouncesGroups, AnnouncesRows}
 use Rattle.certificate.proofs.ReaderLemmas.{Law, Opens, Law-iff, Opens-iff, Both, Law-seq, Opens-seq, Known, Law-give, Opens-give, fine, faulty, both_ok, one_fails, field_from, AreBytes-rest}
 use Rattle.certificate.proofs.TextLemmas.{byte_law, beginning_law, beginning_opens, opening_law, opening_opens, board_law, board_opens, claimed_law, claimed_opens, count_law}
@@ -123,8 +123,8 @@ front_back c text t =
     } in
     (form, first, opening_text costs ++ (groups_text c.groups.groups ++ body_text c), f, (costs, opening_text costs, groups_text c.groups.groups ++ body_text c, o, (c.groups, groups_text c.groups.groups, body_text c, g, b, refl), refl), t.is)
 
-pub costs_parts_law : (v : Version) (n : ℕ) → n ≤ 1 → Law (opening >>= λ costs. all_groups costs.grid >>= λ split. body v n costs split) (CostsParts v n)
-costs_parts_law v n low = Law-seq opening _ SpellsOpening _ opening_law (λ costs _ o. Law-seq (all_groups costs.grid) _ (SpellsAllGroups costs.grid) _ (all_groups_law costs.grid o.rule.sides) (λ split _ _. body_law v n costs split o.rule.sides low))
+pub costs_parts_law : (v : Version) (n : ℕ) → n ≤ 1 → Law (opening_fields >>= λ costs. all_groups costs.grid >>= λ split. body v n costs split) (CostsParts v n)
+costs_parts_law v n low = Law-seq opening_fields _ SpellsOpening _ opening_law (λ costs _ o. Law-seq (all_groups costs.grid) _ (SpellsAllGroups costs.grid) _ (all_groups_law costs.grid o.rule.sides) (λ split _ _. body_law v n costs split o.rule.sides low))
 
 pub front_law : Law front SpellsFront
 unfolding front
@@ -302,7 +302,7 @@ before_beginning bytes all fault from e =
     record { before = p.0; c = q.c; parts = p.3; fits = q.front.fits; begins = inl (begins_front q.c p.0 (p.1 ++ rest) whole) }
 
 -- within the opening
-before_opening : (form : Version × ℕ) (r : List ℕ) → SpellsBeginning form r → (bytes : List ℕ) → AreBytes bytes → (fault : FormatFault) (from : List ℕ) → opening bytes ≡ Err (fault, from) → Precedent (r ++ bytes) from
+before_opening : (form : Version × ℕ) (r : List ℕ) → SpellsBeginning form r → (bytes : List ℕ) → AreBytes bytes → (fault : FormatFault) (from : List ℕ) → opening_fields bytes ≡ Err (fault, from) → Precedent (r ++ bytes) from
 before_opening form r f bytes all fault from e =
     let p = opening_opens.before bytes all fault from e in
     let costs = p.2 in
@@ -376,7 +376,7 @@ before_body form costs split r s t f o g bytes all fault from e =
     record { before = begun; c = c; parts = ap (λ (l : List ℕ). r ++ (s ++ (t ++ l))) b.3 ∙ apart from; fits = front.fits; begins = inl (begins_front c begun b.1 whole) }
 
 -- within the costs, the groups and the boards
-before_costs : (form : Version × ℕ) (r : List ℕ) → SpellsBeginning form r → (bytes : List ℕ) → AreBytes bytes → (fault : FormatFault) (from : List ℕ) → (opening >>= λ costs. all_groups costs.grid >>= λ split. body form.0 form.1 costs split) bytes ≡ Err (fault, from) → Precedent (r ++ bytes) from
+before_costs : (form : Version × ℕ) (r : List ℕ) → SpellsBeginning form r → (bytes : List ℕ) → AreBytes bytes → (fault : FormatFault) (from : List ℕ) → (opening_fields >>= λ costs. all_groups costs.grid >>= λ split. body form.0 form.1 costs split) bytes ≡ Err (fault, from) → Precedent (r ++ bytes) from
 unfolding ◌>>=◌
 before_costs form r f bytes all fault from e =
     ⊎_elim (λ failed. before_opening form r f bytes all fault from failed)
@@ -391,7 +391,7 @@ before_costs form r f bytes all fault from e =
     let begun : bytes ≡ p.0 ++ (q.0 ++ s.0.1) = p.2 ∙ ap (λ (l : List ℕ). p.0 ++ l) q.2 in
     subst (λ (l : List ℕ). Precedent (r ++ l) from) (sym begun) (before_body form costs s.0.0 r p.0 q.0 f p.1 q.1 s.0.1 rest fault from s.2))
     (one_fails (all_groups costs.grid x.0.1) (λ split. body form.0 form.1 costs split) (fault, from) x.2))
-    (one_fails (opening bytes) (λ costs. all_groups costs.grid >>= λ split. body form.0 form.1 costs split) (fault, from) e)
+    (one_fails (opening_fields bytes) (λ costs. all_groups costs.grid >>= λ split. body form.0 form.1 costs split) (fault, from) e)
 
 -- within all before the rows
 before_front : (bytes : List ℕ) → AreBytes bytes → (fault : FormatFault) (from : List ℕ) → front bytes ≡ Err (fault, from) → Precedent bytes from
@@ -403,7 +403,7 @@ before_front bytes all fault from e =
     let p = beginning_law.takes bytes all form x.0.1 x.1 in
     let left : AreBytes x.0.1 = AreBytes-rest p.0 x.0.1 (subst (λ (l : List ℕ). AreBytes l) p.2 all) in
     subst (λ (l : List ℕ). Precedent l from) (sym p.2) (before_costs form p.0 p.1 x.0.1 left fault from x.2))
-    (one_fails (beginning bytes) (λ (form : Version × ℕ). opening >>= λ costs. all_groups costs.grid >>= λ split. body form.0 form.1 costs split) (fault, from) e)
+    (one_fails (beginning bytes) (λ (form : Version × ℕ). opening_fields >>= λ costs. all_groups costs.grid >>= λ split. body form.0 form.1 costs split) (fault, from) e)
 
 -- within the rows
 before_rows : (d : CertificateModel) → IsCertificate d → d.rows ≡ [] → (bytes : List ℕ) → AreBytes bytes → (fault : FormatFault) (from : List ℕ) → all_rows d.grid bytes ≡ Err (fault, from) → Precedent (front_text d ++ bytes) from

@@ -17,11 +17,11 @@ use Rattle.board.specs.Equality.{rule_eq, rules_Decide}
 use Rattle.board.specs.Weights.{WeightsModel, AreWeights, listed_rule, unit_rule, face_rule}
 use Rattle.board.proofs.GoalLemmas.{face_is_rule}
 use Rattle.board.proofs.WeightLemmas.{listed_is_rule}
-use Rattle.certificate.specs.Readings.{all_differ, board_in, give, costs_of, weights_in}
+use Rattle.certificate.specs.Readings.{all_differ, board_from, give, costs_of, weights_in}
 use Rattle.certificate.specs.declared.faults.FormatFault.TheVariants.{OutOfRange}
 use Rattle.certificate.specs.Fields.{SpellsCosts}
 use Rattle.certificate.specs.Laws.{AreBytes}
-use Rattle.certificate.specs.Spellings.{kind_of}
+use Rattle.certificate.specs.Spellings.{cost_kind_of}
 use Rattle.certificate.proofs.ReaderLemmas.{Law, Opens, Law-iff, Opens-iff, Known, Law-give, Opens-give, Law-field, Opens-field}
 
 -- ---- the test of a board is what a board is
@@ -55,15 +55,15 @@ some_is : (a b : BoardModel) → Some a ≡ Some b → a ≡ b
 some_is a b e = cc
 
 -- what is no board has no value
-pub no_board : (grid : ShapeModel) (text : List ℕ) → IsShape grid → length text ≡ cell_count grid → ¬ IsBoard (record { grid = grid; tiles = text }) → board_in grid text ≡ None
-unfolding board_in
+pub no_board : (grid : ShapeModel) (text : List ℕ) → IsShape grid → length text ≡ cell_count grid → ¬ IsBoard (record { grid = grid; tiles = text }) → board_from grid text ≡ None
+unfolding board_from
 no_board grid text sides one_each not_one =
     let fails : tests grid text ≡ false = not_true (tests grid text) (λ e. not_one ((tests-Decide grid text sides one_each).0 e)) in
     rw fails refl
 
 -- a board has its value
-pub board_back : (grid : ShapeModel) (b : BoardModel) → IsBoard b → b.grid ≡ grid → board_in grid b.tiles ≡ Some b
-unfolding board_in
+pub board_back : (grid : ShapeModel) (b : BoardModel) → IsBoard b → b.grid ≡ grid → board_from grid b.tiles ≡ Some b
+unfolding board_from
 board_back grid b board sides =
     let at : BoardModel = record { grid = grid; tiles = b.tiles } in
     let same : at ≡ b = λ i. record { grid = sym sides i; tiles = b.tiles } in
@@ -72,8 +72,8 @@ board_back grid b board sides =
     rw passes (ap (λ (p : BoardModel). Some p) same)
 
 -- what has a value is a board
-pub board_found : (grid : ShapeModel) (text : List ℕ) (b : BoardModel) → IsShape grid → length text ≡ cell_count grid → board_in grid text ≡ Some b → IsBoard b × (b.grid ≡ grid) × (b.tiles ≡ text)
-unfolding board_in
+pub board_found : (grid : ShapeModel) (text : List ℕ) (b : BoardModel) → IsShape grid → length text ≡ cell_count grid → board_from grid text ≡ Some b → IsBoard b × (b.grid ≡ grid) × (b.tiles ≡ text)
+unfolding board_from
 board_found grid text b sides one_each found = found_by (tests grid text) refl found
   where
     found_by : (r : Bool) → tests grid text ≡ r → cond r (Some (record { grid = grid; tiles = text })) None ≡ Some b → IsBoard b × (b.grid ≡ grid) × (b.tiles ≡ text)
@@ -95,7 +95,7 @@ IsKind costs zero = costs ≡ unit_rule costs.grid
 IsKind costs (suc zero) = costs ≡ face_rule costs.grid
 IsKind costs (suc (suc kind)) = kind ≡ 0
 
-kind_says : (costs : WeightsModel) → IsKind costs (kind_of costs)
+kind_says : (costs : WeightsModel) → IsKind costs (cost_kind_of costs)
 unfolding IsKind
 kind_says costs = by_unit (rule_eq costs (unit_rule costs.grid)) refl (rule_eq costs (face_rule costs.grid)) refl
   where
@@ -110,23 +110,23 @@ kind_low costs zero is = omega arith
 kind_low costs (suc zero) is = omega arith
 kind_low costs (suc (suc kind)) is = omega (arith, is)
 
-pub kind_high : (costs : WeightsModel) → kind_of costs ≤ 2
-kind_high costs = kind_low costs (kind_of costs) (kind_says costs)
+pub kind_high : (costs : WeightsModel) → cost_kind_of costs ≤ 2
+kind_high costs = kind_low costs (cost_kind_of costs) (kind_says costs)
 
 -- costs of kind 0 are unit costs, and of kind 1 face costs
-unit_of : (costs : WeightsModel) → kind_of costs ≡ 0 → costs ≡ unit_rule costs.grid
+unit_of : (costs : WeightsModel) → cost_kind_of costs ≡ 0 → costs ≡ unit_rule costs.grid
 unfolding IsKind
 unit_of costs is = subst (IsKind costs) is (kind_says costs)
 
-face_of : (costs : WeightsModel) → kind_of costs ≡ 1 → costs ≡ face_rule costs.grid
+face_of : (costs : WeightsModel) → cost_kind_of costs ≡ 1 → costs ≡ face_rule costs.grid
 unfolding IsKind
 face_of costs is = subst (IsKind costs) is (kind_says costs)
 
-pub unit_kind : (grid : ShapeModel) → kind_of (unit_rule grid) ≡ 0
+pub unit_kind : (grid : ShapeModel) → cost_kind_of (unit_rule grid) ≡ 0
 unit_kind grid = let same : rule_eq (unit_rule grid) (unit_rule grid) ≡ true = (rules_Decide (unit_rule grid) (unit_rule grid)).1 refl in rw same refl
 
 -- neither of both
-other_kind : (costs : WeightsModel) → (costs ≡ unit_rule costs.grid → ⊥) → (costs ≡ face_rule costs.grid → ⊥) → kind_of costs ≡ 2
+other_kind : (costs : WeightsModel) → (costs ≡ unit_rule costs.grid → ⊥) → (costs ≡ face_rule costs.grid → ⊥) → cost_kind_of costs ≡ 2
 other_kind costs no_unit no_face =
     let unit : rule_eq costs (unit_rule costs.grid) ≡ false = not_true _ (λ e. no_unit ((rules_Decide costs (unit_rule costs.grid)).0 e)) in
     let face : rule_eq costs (face_rule costs.grid) ≡ false = not_true _ (λ e. no_face ((rules_Decide costs (face_rule costs.grid)).0 e)) in
@@ -149,7 +149,7 @@ face_is_other grid sides same =
     let many = many_cells grid sides in
     omega (arith, weight_at 2 (face_rule grid) (unit_rule grid) same, face_weighs grid 2 (omega (arith, many)), unit_weighs grid 1 (omega (arith, many)))
 
-pub face_kind : (grid : ShapeModel) → IsShape grid → kind_of (face_rule grid) ≡ 1
+pub face_kind : (grid : ShapeModel) → IsShape grid → cost_kind_of (face_rule grid) ≡ 1
 face_kind grid sides =
     let unit : rule_eq (face_rule grid) (unit_rule grid) ≡ false = not_true _ (λ e. face_is_other grid sides ((rules_Decide (face_rule grid) (unit_rule grid)).0 e)) in
     let face : rule_eq (face_rule grid) (face_rule grid) ≡ true = (rules_Decide (face_rule grid) (face_rule grid)).1 refl in
@@ -193,7 +193,7 @@ weights_there grid c text t =
     let listed = rule_listed c t.costs.rule in
     let same : listed_rule grid text ≡ c = (λ i. record { grid = sym t.costs.sides i; weights = 0 ∷ t.is i }) ∙ listed.0 in
     let above : list_all (λ weight. ltb 0 weight) text ≡ true = (above_Decides text).1 (weights_above grid text (subst AreWeights (sym same) t.costs.rule)) in
-    let kind : eqb (kind_of (listed_rule grid text)) 2 ≡ true = ap (λ (rule : WeightsModel). eqb (kind_of rule) 2) same ∙ ap (λ (k : ℕ). eqb k 2) t.kind in (
+    let kind : eqb (cost_kind_of (listed_rule grid text)) 2 ≡ true = ap (λ (rule : WeightsModel). eqb (cost_kind_of rule) 2) same ∙ ap (λ (k : ℕ). eqb k 2) t.kind in (
       ap (λ (l : List ℕ). length l) t.is ∙ listed.1 ∙ ap (λ (g : ShapeModel). cell_count g - 1) t.costs.sides,
       rw (above, kind) (ap (λ (rule : WeightsModel). Some rule) same),
     )
@@ -208,9 +208,9 @@ both_true false b e = absurd cc
 -- and what has a value spells it
 weights_back : (grid : ShapeModel) → IsShape grid → (c : WeightsModel) (text : List ℕ) → AreBytes text → length text ≡ cell_count grid - 1 → weights_in grid text ≡ Some c → SpellsCosts grid 2 c text
 unfolding weights_in
-weights_back grid sides c text all counted e = by_test (list_all (λ weight. ltb 0 weight) text && eqb (kind_of (listed_rule grid text)) 2) refl e
+weights_back grid sides c text all counted e = by_test (list_all (λ weight. ltb 0 weight) text && eqb (cost_kind_of (listed_rule grid text)) 2) refl e
   where
-    by_test : (r : Bool) → (list_all (λ weight. ltb 0 weight) text && eqb (kind_of (listed_rule grid text)) 2) ≡ r → cond r (Some (listed_rule grid text)) None ≡ Some c → SpellsCosts grid 2 c text
+    by_test : (r : Bool) → (list_all (λ weight. ltb 0 weight) text && eqb (cost_kind_of (listed_rule grid text)) 2) ≡ r → cond r (Some (listed_rule grid text)) None ≡ Some c → SpellsCosts grid 2 c text
     by_test false is e = absurd cc
     by_test true is e =
         let p = both_true _ _ is in
@@ -226,14 +226,14 @@ no_weights grid text sides counted small not_one =
     rw fails refl
 
 -- so has one of another kind
-pub other_weights : (grid : ShapeModel) (text : List ℕ) (c : WeightsModel) → c ≡ listed_rule grid text → (kind_of c ≡ 2 → ⊥) → weights_in grid text ≡ None
+pub other_weights : (grid : ShapeModel) (text : List ℕ) (c : WeightsModel) → c ≡ listed_rule grid text → (cost_kind_of c ≡ 2 → ⊥) → weights_in grid text ≡ None
 unfolding weights_in
 other_weights grid text c is other =
-    let fails : eqb (kind_of (listed_rule grid text)) 2 ≡ false = not_true _ (λ e. other (ap kind_of is ∙ eqb-true _ _ e)) in
+    let fails : eqb (cost_kind_of (listed_rule grid text)) 2 ≡ false = not_true _ (λ e. other (ap cost_kind_of is ∙ eqb-true _ _ e)) in
     rw (fails, and-false (list_all (λ weight. ltb 0 weight) text)) refl
 
 -- and one of kind 2 has its costs
-pub listed_value : (grid : ShapeModel) (text : List ℕ) (c : WeightsModel) → AreWeights (listed_rule grid text) → c ≡ listed_rule grid text → kind_of c ≡ 2 → weights_in grid text ≡ Some c
+pub listed_value : (grid : ShapeModel) (text : List ℕ) (c : WeightsModel) → AreWeights (listed_rule grid text) → c ≡ listed_rule grid text → cost_kind_of c ≡ 2 → weights_in grid text ≡ Some c
 listed_value grid text c rule is kind =
     (weights_there grid c text (record { costs = record { rule = subst AreWeights (sym is) rule; sides = ap (λ (r : WeightsModel). r.grid) is }; kind = kind; is = ap (λ (r : WeightsModel). drop 1 r.weights) (sym is) })).1
 

@@ -21,8 +21,8 @@ use Rattle.certificate.specs.declared.certificate.Version.TheVariants.{One, Two}
 use Rattle.certificate.specs.Certificates.{IsWithinLimit}
 use Rattle.board.specs.Letters.{letter_of, move_of_letter}
 use Rattle.board.proofs.LetterLemmas.{letter_reads}
-use Rattle.certificate.specs.Spellings.{kind_of, weights_text, version_text, claim_text, opening_text, number_text, count_text, plan_text}
-use Rattle.certificate.specs.Readings.{give, version, version_in, claim, beginning, byte_within, byte_in, number, number_within, number_in, count, count_in, board, board_in, letter, letter_in, grid_of, opening, letters, plan, claimed}
+use Rattle.certificate.specs.Spellings.{cost_kind_of, weights_text, version_text, claim_text, opening_text, number_text, count_text, plan_text}
+use Rattle.certificate.specs.Readings.{give, version, version_in, claim, beginning, byte_within, byte_in, number, number_within, number_in, count, count_in, board, board_from, letter, letter_in, grid_with, opening_fields, letters, plan, claimed}
 use Rattle.certificate.specs.Laws.{AreBytes}
 use Rattle.certificate.proofs.CostLemmas.{costs_law, costs_open, kind_high, board_back, board_found}
 use Rattle.certificate.proofs.ReaderLemmas.{number_back, count_back, Law, Opens, Law-iff, Opens-iff, Both, Law-seq, Opens-seq, Known, Law-give, Opens-give, Law-field, Opens-field}
@@ -164,20 +164,20 @@ count_law = Law-field OutOfRange 8 count_in SpellsCount count_there count_in_bac
 
 -- ---- boards
 
-board_there : (grid : ShapeModel) (b : BoardModel) (text : List ℕ) → SpellsBoard grid b text → (length text ≡ cell_count grid) × (board_in grid text ≡ Some b)
+board_there : (grid : ShapeModel) (b : BoardModel) (text : List ℕ) → SpellsBoard grid b text → (length text ≡ cell_count grid) × (board_from grid text ≡ Some b)
 board_there grid b text t = (
   ap (λ (l : List ℕ). length l) t.is ∙ t.board.board.one_each ∙ ap cell_count t.board.sides,
-  ap (board_in grid) t.is ∙ board_back grid b t.board.board t.board.sides,
+  ap (board_from grid) t.is ∙ board_back grid b t.board.board t.board.sides,
 )
 
-board_in_back : (grid : ShapeModel) → IsShape grid → (b : BoardModel) (text : List ℕ) → AreBytes text → length text ≡ cell_count grid → board_in grid text ≡ Some b → SpellsBoard grid b text
+board_in_back : (grid : ShapeModel) → IsShape grid → (b : BoardModel) (text : List ℕ) → AreBytes text → length text ≡ cell_count grid → board_from grid text ≡ Some b → SpellsBoard grid b text
 board_in_back grid sides b text all len e = let p = board_found grid text b sides len e in record { board = record { board = p.0; sides = p.1 }; is = sym p.2 }
 
 pub board_law : (grid : ShapeModel) → IsShape grid → Law (board grid) (SpellsBoard grid)
-board_law grid sides = Law-field OutOfRange (cell_count grid) (board_in grid) (SpellsBoard grid) (board_there grid) (board_in_back grid sides)
+board_law grid sides = Law-field OutOfRange (cell_count grid) (board_from grid) (SpellsBoard grid) (board_there grid) (board_in_back grid sides)
 
 pub board_opens : (grid : ShapeModel) → IsShape grid → Opens (board grid) (SpellsBoard grid)
-board_opens grid sides = Opens-field OutOfRange (cell_count grid) (board_in grid) (SpellsBoard grid) (goal_of grid) (goal_of grid).tiles (record { board = record { board = goal_board grid sides; sides = refl }; is = refl })
+board_opens grid sides = Opens-field OutOfRange (cell_count grid) (board_from grid) (SpellsBoard grid) (goal_of grid) (goal_of grid).tiles (record { board = record { board = goal_board grid sides; sides = refl }; is = refl })
 
 -- ---- letters
 
@@ -198,7 +198,7 @@ letter_opens = Opens-field OutOfRange 1 letter_in SpellsLetter U (letter_of U �
 -- ---- the opening
 
 abbrev pub KindParts : ℕ → ℕ → WeightsModel → List ℕ → Type 0
-KindParts rows cols = Both (SpellsByte 0 2) (λ kind. SpellsCosts (grid_of rows cols) kind)
+KindParts rows cols = Both (SpellsByte 0 2) (λ kind. SpellsCosts (grid_with rows cols) kind)
 
 abbrev pub ColsParts : ℕ → WeightsModel → List ℕ → Type 0
 ColsParts rows = Both (SpellsByte 2 5) (λ cols. KindParts rows cols)
@@ -206,34 +206,34 @@ ColsParts rows = Both (SpellsByte 2 5) (λ cols. KindParts rows cols)
 abbrev pub RowsParts : WeightsModel → List ℕ → Type 0
 RowsParts = Both (SpellsByte 2 5) (λ rows. ColsParts rows)
 
-pub sides_read : (rows cols : ℕ) (s t : List ℕ) → SpellsByte 2 5 rows s → SpellsByte 2 5 cols t → IsShape (grid_of rows cols)
+pub sides_read : (rows cols : ℕ) (s t : List ℕ) → SpellsByte 2 5 rows s → SpellsByte 2 5 cols t → IsShape (grid_with rows cols)
 sides_read rows cols s t r c = record { rows_low = r.above; rows_high = r.below; cols_low = c.above; cols_high = c.below }
 
-opening_parts_law : Law opening RowsParts
-unfolding opening
+opening_parts_law : Law opening_fields RowsParts
+unfolding opening_fields
 opening_parts_law = Law-seq (byte_within 2 5) _ (SpellsByte 2 5) _ (byte_law 2 5) (λ rows s r.
     Law-seq (byte_within 2 5) _ (SpellsByte 2 5) _ (byte_law 2 5) (λ cols t c.
-    Law-seq (byte_within 0 2) _ (SpellsByte 0 2) _ (byte_law 0 2) (λ kind _ k. costs_law (grid_of rows cols) kind (sides_read rows cols s t r c) k.below)))
+    Law-seq (byte_within 0 2) _ (SpellsByte 0 2) _ (byte_law 0 2) (λ kind _ k. costs_law (grid_with rows cols) kind (sides_read rows cols s t r c) k.below)))
 
-opening_parts_open : Opens opening RowsParts
-unfolding opening
+opening_parts_open : Opens opening_fields RowsParts
+unfolding opening_fields
 opening_parts_open = Opens-seq (byte_within 2 5) _ (SpellsByte 2 5) _ (byte_law 2 5) (byte_opens 2 5 (omega arith)) (λ rows s r.
     Opens-seq (byte_within 2 5) _ (SpellsByte 2 5) _ (byte_law 2 5) (byte_opens 2 5 (omega arith)) (λ cols t c.
-    Opens-seq (byte_within 0 2) _ (SpellsByte 0 2) _ (byte_law 0 2) (byte_opens 0 2 (omega arith)) (λ kind _ k. costs_open (grid_of rows cols) kind (sides_read rows cols s t r c) k.below)))
+    Opens-seq (byte_within 0 2) _ (SpellsByte 0 2) _ (byte_law 0 2) (byte_opens 0 2 (omega arith)) (λ kind _ k. costs_open (grid_with rows cols) kind (sides_read rows cols s t r c) k.below)))
 
 pub opening_there : (costs : WeightsModel) (text : List ℕ) → RowsParts costs text → SpellsOpening costs text
 unfolding opening_text
 opening_there costs text (rows, s1, t1, r, (cols, s2, t2, c, (kind, s3, t3, k, o, e3), e2), e1) =
-    let same : costs.grid ≡ grid_of rows cols = o.costs.sides in
+    let same : costs.grid ≡ grid_with rows cols = o.costs.sides in
     let bytes : text ≡ rows ∷ cols ∷ kind ∷ t3 = e1 ∙ (λ i. r.is i ++ e2 i) ∙ (λ i. rows ∷ (c.is i ++ e3 i)) ∙ (λ i. rows ∷ cols ∷ (k.is i ++ t3)) in
-    let told : t3 ≡ weights_text (kind_of costs) costs = o.is ∙ ap (λ (n : ℕ). weights_text n costs) (sym o.kind) in
+    let told : t3 ≡ weights_text (cost_kind_of costs) costs = o.is ∙ ap (λ (n : ℕ). weights_text n costs) (sym o.kind) in
     record { rule = o.costs.rule; is = bytes ∙ (λ i. (sym same i).rows ∷ (sym same i).cols ∷ sym o.kind i ∷ told i) }
 
 opening_back : (costs : WeightsModel) (text : List ℕ) → SpellsOpening costs text → RowsParts costs text
 unfolding opening_text
 opening_back costs text t =
     let grid = costs.grid in
-    let kind = kind_of costs in
+    let kind = cost_kind_of costs in
     let last = weights_text kind costs in
     let sides = t.rule.sides in
     let r : SpellsByte 2 5 grid.rows (grid.rows ∷ []) = record { above = sides.rows_low; below = sides.rows_high; is = refl } in
@@ -242,11 +242,11 @@ opening_back costs text t =
     let o : SpellsCosts grid kind costs last = record { costs = record { rule = t.rule; sides = refl }; kind = refl; is = refl } in
     (grid.rows, grid.rows ∷ [], grid.cols ∷ kind ∷ last, r, (grid.cols, grid.cols ∷ [], kind ∷ last, c, (kind, kind ∷ [], last, k, o, refl), refl), t.is)
 
-pub opening_law : Law opening SpellsOpening
-opening_law = Law-iff opening RowsParts SpellsOpening opening_there opening_back opening_parts_law
+pub opening_law : Law opening_fields SpellsOpening
+opening_law = Law-iff opening_fields RowsParts SpellsOpening opening_there opening_back opening_parts_law
 
-pub opening_opens : Opens opening SpellsOpening
-opening_opens = Opens-iff opening RowsParts SpellsOpening opening_there opening_parts_open
+pub opening_opens : Opens opening_fields SpellsOpening
+opening_opens = Opens-iff opening_fields RowsParts SpellsOpening opening_there opening_parts_open
 
 -- ---- the beginning
 

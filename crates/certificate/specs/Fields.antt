@@ -12,7 +12,7 @@ use Rattle.certificate.specs.declared.certificate.Version.{Version}
 use Rattle.certificate.specs.declared.certificate.Version.TheVariants.{One, Two}
 use Rattle.certificate.specs.Certificates.{CertificateModel, AreCostsOf, IsSplitOf, IsBoardOf, IsWithinLimit, greatest, IsRow, Follows, RiseAfter, IsCertificate}
 use Rattle.board.specs.Letters.{letter_of}
-use Rattle.certificate.specs.Spellings.{kind_of, weights_text, version_text, claim_of, claim_text, beginning_text, opening_text, group_text, groups_text, number_text, count_text, plan_text, claimed_text, row_text, body_text, front_text}
+use Rattle.certificate.specs.Spellings.{cost_kind_of, weights_text, version_text, claim_of, claim_text, beginning_text, opening_text, group_text, groups_text, number_text, count_text, plan_text, claimed_text, row_text, body_text, front_text}
 
 -- the version of a certificate, with which it begins
 abbrev pub SpellsVersion : Version → List ℕ → Type 0
@@ -65,7 +65,7 @@ SpellsLetter m text = text ≡ letter_of m ∷ []
 -- costs of the grid that are of this kind, by what follows the kind
 pub record SpellsCosts (grid : ShapeModel) (n : ℕ) (c : WeightsModel) (text : List ℕ) : Type 0 where
   pub costs : AreCostsOf grid c
-  pub kind : kind_of c ≡ n
+  pub kind : cost_kind_of c ≡ n
   pub is : text ≡ weights_text n c
 
 -- the costs of a shape

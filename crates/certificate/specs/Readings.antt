@@ -17,7 +17,7 @@ use Rattle.certificate.specs.declared.certificate.TheConstants.{GREATEST_BOUND}
 use Rattle.certificate.specs.declared.certificate.Version.{Version}
 use Rattle.certificate.specs.declared.certificate.Version.TheVariants.{One, Two}
 use Rattle.certificate.specs.Certificates.{CertificateModel}
-use Rattle.certificate.specs.Spellings.{kind_of}
+use Rattle.certificate.specs.Spellings.{cost_kind_of}
 use Rattle.certificate.specs.declared.faults.FormatFault.{FormatFault}
 use Rattle.certificate.specs.declared.faults.FormatFault.TheVariants.{OtherMagic, Truncated, OutOfRange, NotRising, BytesAfterEnd}
 
@@ -98,11 +98,11 @@ all_differ [] = true
 all_differ (x ∷ xs) = list_all (λ y. not (x == y)) xs && all_differ xs
 
 -- each number is below the count of cells, and no two are the same
-unfoldable pub board_in : ShapeModel → List ℕ → Option BoardModel
-board_in grid text = if list_all (λ tile. nat_lt tile (cell_count grid)) text && all_differ text then Some (record { grid = grid; tiles = text }) else None
+unfoldable pub board_from : ShapeModel → List ℕ → Option BoardModel
+board_from grid text = if list_all (λ tile. nat_lt tile (cell_count grid)) text && all_differ text then Some (record { grid = grid; tiles = text }) else None
 
 abbrev pub board : ShapeModel → Reader BoardModel
-board grid = field OutOfRange (cell_count grid) (board_in grid)
+board grid = field OutOfRange (cell_count grid) (board_from grid)
 
 -- each number is above 0 and below the count of cells
 abbrev pub are_tiles : ShapeModel → List ℕ → Bool
@@ -133,12 +133,12 @@ letter = field OutOfRange 1 letter_in
 
 -- the weights of tiles 1, 2, .. in order: none is 0, and they are neither unit nor face costs
 unfoldable pub weights_in : ShapeModel → List ℕ → Option WeightsModel
-weights_in grid text = if list_all (λ weight. nat_lt 0 weight) text && (kind_of (listed_rule grid text) == 2) then Some (listed_rule grid text) else None
+weights_in grid text = if list_all (λ weight. nat_lt 0 weight) text && (cost_kind_of (listed_rule grid text) == 2) then Some (listed_rule grid text) else None
 
 -- ---- the certificate
 
-abbrev pub grid_of : ℕ → ℕ → ShapeModel
-grid_of rows cols = record { rows = rows; cols = cols }
+abbrev pub grid_with : ℕ → ℕ → ShapeModel
+grid_with rows cols = record { rows = rows; cols = cols }
 
 -- kind 0 is unit cost, kind 1 face cost; of kind 2 the weights follow
 abbrev pub costs_of : ShapeModel → ℕ → Reader WeightsModel
@@ -157,12 +157,12 @@ beginning = do
   n ← claim v
   give (v, n)
 
-unfoldable pub opening : Reader WeightsModel
-opening = do
+unfoldable pub opening_fields : Reader WeightsModel
+opening_fields = do
   rows ← byte_within 2 5
   cols ← byte_within 2 5
   kind ← byte_within 0 2
-  costs_of (grid_of rows cols) kind
+  costs_of (grid_with rows cols) kind
 
 -- the number of tiles, and the tiles
 unfoldable pub group : ShapeModel → List GroupModel → Reader GroupModel
@@ -250,7 +250,7 @@ body v n costs groups = do
 unfoldable pub front : Reader CertificateModel
 front = do
   form ← beginning
-  costs ← opening
+  costs ← opening_fields
   split ← all_groups costs.grid
   body form.0 form.1 costs split
 

@@ -13,8 +13,8 @@ use Rattle.certificate.specs.declared.certificate.Version.TheVariants.{One, Two}
 use Rattle.certificate.specs.Certificates.{CertificateModel, IsCertificate}
 
 -- 0 where every move costs 1, 1 where moving tile t costs t, else 2
-abbrev pub kind_of : WeightsModel → ℕ
-kind_of costs = if rule_eq costs (unit_rule costs.grid) then 0 else if rule_eq costs (face_rule costs.grid) then 1 else 2
+abbrev pub cost_kind_of : WeightsModel → ℕ
+cost_kind_of costs = if rule_eq costs (unit_rule costs.grid) then 0 else if rule_eq costs (face_rule costs.grid) then 1 else 2
 
 -- what follows the kind: of kind 2 the weights of tiles 1, 2, .. in order
 abbrev pub weights_text : ℕ → WeightsModel → List ℕ
@@ -43,7 +43,7 @@ beginning_text version claim = version_text version ++ claim_text version claim
 
 -- the sides of the boards, and the costs
 unfoldable pub opening_text : WeightsModel → List ℕ
-opening_text costs = costs.grid.rows ∷ costs.grid.cols ∷ kind_of costs ∷ weights_text (kind_of costs) costs
+opening_text costs = costs.grid.rows ∷ costs.grid.cols ∷ cost_kind_of costs ∷ weights_text (cost_kind_of costs) costs
 
 -- the number of tiles, and the tiles
 abbrev pub group_text : GroupModel → List ℕ

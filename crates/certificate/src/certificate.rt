@@ -9,7 +9,7 @@ ghost use Rattle.certificate.specs.Certificates.{cost_of, plan_of};
 ghost use Rattle.certificate.specs.Certificates.{IsWithinLimit, IsRow, Follows};
 ghost use Rattle.certificate.specs.Certificates.{RiseAfter, IsCertificate};
 ghost use Rattle.certificate.specs.Readings.{may_follow};
-ghost use Rattle.certificate.specs.Spellings.{kind_of};
+ghost use Rattle.certificate.specs.Spellings.{cost_kind_of};
 
 use board::{Board, GREATEST_COST, Move, Shape, Weights};
 use pattern_index::Partition;
@@ -236,7 +236,7 @@ fn are_costs_of(shape: Shape, costs: &Weights) -> bool
 
 // 0 for unit costs, 1 for face costs, else 2.
 pub(crate) fn kind(costs: &Weights) -> u8
-    ensures { result ≡ kind_of costs.now }
+    ensures { result ≡ cost_kind_of costs.now }
 {
     let shape = costs.shape();
     if *costs == Weights::unit(shape) {

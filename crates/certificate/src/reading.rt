@@ -9,7 +9,7 @@ ghost use Rattle.certificate.specs.Fields.{SpellsClaim, SpellsBeginning, SpellsC
 ghost use Rattle.certificate.specs.Fields.{SpellsOpening};
 ghost use Rattle.certificate.specs.Fields.{SpellsLetters, SpellsPlan, SpellsClaimed, SpellsRows};
 ghost use Rattle.certificate.specs.Fields.{SpellsAllRows, SpellsBody, SpellsFront};
-ghost use Rattle.certificate.specs.Readings.{claim, beginning, costs_of, opening};
+ghost use Rattle.certificate.specs.Readings.{claim, beginning, costs_of, opening_fields};
 ghost use Rattle.certificate.specs.Readings.{letters, plan, claimed, rows, all_rows};
 ghost use Rattle.certificate.specs.Readings.{body, front, certificate};
 ghost use Rattle.certificate.specs.Sources.{ReadsField, ReadsAll, ReadsCertificate};
@@ -50,7 +50,7 @@ fn read_claim<S: Source>(source: &mut S, version: Version) -> Result<u8, ReadFau
 
 // The sides of the boards, and the costs.
 fn read_opening<S: Source>(source: &mut S) -> Result<Weights, ReadFault>
-    ensures { ReadsField opening SpellsOpening (change S.state source.old source.new) result }
+    ensures { ReadsField opening_fields SpellsOpening (change S.state source.old source.new) result }
 {
     let rows = read_byte(source, 2, 5)?;
     let cols = read_byte(source, 2, 5)?;

@@ -7,7 +7,7 @@ ghost use Rattle.byte_streams.specs.Streams.{change};
 ghost use Rattle.byte_streams.specs.Sink.{Writes};
 ghost use Rattle.certificate.specs.Certificates.{cost_of, plan_of, IsWithinLimit};
 ghost use Rattle.certificate.specs.Spellings.{claim_of, beginning_text};
-ghost use Rattle.certificate.specs.Spellings.{kind_of, weights_text, opening_text};
+ghost use Rattle.certificate.specs.Spellings.{cost_kind_of, weights_text, opening_text};
 ghost use Rattle.certificate.specs.Spellings.{number_text, count_text};
 ghost use Rattle.certificate.specs.Spellings.{group_text, groups_text, plan_text, claimed_text};
 ghost use Rattle.certificate.specs.Spellings.{row_text};
@@ -106,7 +106,7 @@ fn write_opening<K: Sink>(sink: &mut K, costs: &Weights) -> Result<(), WriteFail
 
 // The weights of tiles 1, 2, .., which stand behind the kind where it does not tell them.
 fn weights_behind(costs: &Weights) -> &[u8]
-    ensures { result.now ≡ weights_text (kind_of costs.now) costs.now }
+    ensures { result.now ≡ weights_text (cost_kind_of costs.now) costs.now }
 {
     if kind(costs) == 2 {
         costs.listed()

@@ -52,7 +52,7 @@ use Rattle.batch_runs.specs.Batches.Answer.{refused, answered}
 use Rattle.batch_runs.specs.Batches.{HasFailed, no_lines, with_outcome, status_of_counts}
 use Rattle.batch_runs.specs.Batches.AnswersEntry.{by_fault, by_outcome, by_want}
 use Rattle.batch_runs.specs.FirstLines.{FindsFirst, FindsLine}
-use Rattle.batch_runs.specs.Setups.{SetupModel, Guides, task_of}
+use Rattle.batch_runs.specs.Setups.{SetupModel, Guides, task_of_setup}
 use Rattle.batch_runs.proofs.BatchLemmas.{answer_is}
 use Rattle.certificate_runs.specs.Built.{HasSmallEntries, HasSmallFolds, HaveSmallEntries, AreBuiltFor}
 use Rattle.certificate_runs.specs.Rules.{ProofRules, MayReport, report_rules}
@@ -300,7 +300,7 @@ abbrev pub stated : SetupModel → BoardModel → ℕ → Option (List Move) →
 stated setup b cost plan rows = record { version = Two; grid = setup.goal.grid; costs = setup.rule; groups = setup.tables.split; start = b; goal = setup.goal; cost = cost; plan = plan; rows = rows }
 
 -- what an outcome says can be written
-cost_fits : (setup : SetupModel) (b : BoardModel) (cost : ℕ) (plan : Option (List Move)) (rows : List (BoardModel × ℕ)) → IsTables setup.tables → HaveSmallEntries setup.tables → IsAnswerOf (task_of setup b) cost plan rows → cost ≤ greatest plan
+cost_fits : (setup : SetupModel) (b : BoardModel) (cost : ℕ) (plan : Option (List Move)) (rows : List (BoardModel × ℕ)) → IsTables setup.tables → HaveSmallEntries setup.tables → IsAnswerOf (task_of_setup setup b) cost plan rows → cost ≤ greatest plan
 cost_fits setup b cost (Some plan) rows there small answers = answers.leads.1
 cost_fits setup b cost None rows there small answers = let le = answers.low GREATEST_SUM (λ c board same. sums_low setup.tables c there small) in omega (arith, le)
 
@@ -313,7 +313,7 @@ plan_leads task cost (Some plan) rows answers = answers.leads.0
 plan_leads task cost None rows answers = tt
 
 -- so it has a certificate
-pub certificate_is : (order : KeysAreInOrder) (setup : SetupModel) (b : BoardModel) (cost : ℕ) (plan : Option (List Move)) (rows : List (BoardModel × ℕ)) → IsBoard setup.goal → IsTables setup.tables → HaveSmallEntries setup.tables → setup.tables.split.grid ≡ setup.goal.grid → IsBoardOf setup.goal.grid b → AreCostsOf setup.goal.grid setup.rule → length rows < 2 ^ 64 → IsAnswerOf (task_of setup b) cost plan rows → IsCertificate (stated setup b cost plan rows)
+pub certificate_is : (order : KeysAreInOrder) (setup : SetupModel) (b : BoardModel) (cost : ℕ) (plan : Option (List Move)) (rows : List (BoardModel × ℕ)) → IsBoard setup.goal → IsTables setup.tables → HaveSmallEntries setup.tables → setup.tables.split.grid ≡ setup.goal.grid → IsBoardOf setup.goal.grid b → AreCostsOf setup.goal.grid setup.rule → length rows < 2 ^ 64 → IsAnswerOf (task_of_setup setup b) cost plan rows → IsCertificate (stated setup b cost plan rows)
 certificate_is order setup b cost plan rows goal there small sides start costs few answers = record {
   sides = goal.sides;
   costs = costs;
@@ -322,14 +322,14 @@ certificate_is order setup b cost plan rows goal there small sides start costs f
   goal = record { board = goal; sides = refl };
   claim = tt;
   cost = cost_fits setup b cost plan rows there small answers;
-  plan = plan_fits (task_of setup b) cost plan rows answers;
+  plan = plan_fits (task_of_setup setup b) cost plan rows answers;
   count = few;
   rows = rows_fit setup.goal.grid rows answers.rows.boards answers.rows.low;
   rising = rise order setup.goal.grid rows answers.rows.boards answers.rows.rising;
 }
 
 -- its rows prove the cost with the tables of its groups
-proved_by : (setup : SetupModel) (b : BoardModel) (cost : ℕ) (plan : Option (List Move)) (rows : List (BoardModel × ℕ)) → IsBoard setup.goal → IsTables setup.tables → Guides setup.goal setup.rule setup.tables → HaveSmallEntries setup.tables → IsBoardOf setup.goal.grid b → IsAnswerOf (task_of setup b) cost plan rows
+proved_by : (setup : SetupModel) (b : BoardModel) (cost : ℕ) (plan : Option (List Move)) (rows : List (BoardModel × ℕ)) → IsBoard setup.goal → IsTables setup.tables → Guides setup.goal setup.rule setup.tables → HaveSmallEntries setup.tables → IsBoardOf setup.goal.grid b → IsAnswerOf (task_of_setup setup b) cost plan rows
     → (tables : BoundModel) → AreBuiltFor (stated setup b cost plan rows) tables → IsProved (stated setup b cost plan rows) tables
 proved_by setup b cost plan rows goal there guides small start answers tables built =
     let are_true : AreTrue setup.rule setup.goal tables = record {
@@ -339,14 +339,14 @@ proved_by setup b cost plan rows goal there guides small start answers tables bu
       values = built.each.values;
     } in
     record {
-      plan = plan_leads (task_of setup b) cost plan rows answers;
+      plan = plan_leads (task_of_setup setup b) cost plan rows answers;
       fit = record { groups = built.groups; whole = built.whole; potentials = true_potentials setup.rule setup.goal tables goal are_true };
       rows = proved_above setup.rule rows (sum_of (parts_of setup.tables)) (sum_of (parts_of tables)) b setup.goal cost start.board start.sides answers.rows.boards (λ r board same. sums_below setup.rule setup.goal r setup.tables tables there (sym built.groups) guides.1 small are_true board same) answers.rows.proves;
     }
 
 -- a certificate that states what such an outcome does answers its task
-pub certificate_of : (setup : SetupModel) (b : BoardModel) (cost : ℕ) (plan : Option (List Move)) (rows : List (BoardModel × ℕ)) (c : CertificateModel) → IsBoard setup.goal → IsTables setup.tables → Guides setup.goal setup.rule setup.tables → HaveSmallEntries setup.tables → IsBoardOf setup.goal.grid b → IsAnswerOf (task_of setup b) cost plan rows
-    → c ≡ stated setup b cost plan rows → IsCertificate c → IsCertificateOf setup.tables.split (task_of setup b) c
+pub certificate_of : (setup : SetupModel) (b : BoardModel) (cost : ℕ) (plan : Option (List Move)) (rows : List (BoardModel × ℕ)) (c : CertificateModel) → IsBoard setup.goal → IsTables setup.tables → Guides setup.goal setup.rule setup.tables → HaveSmallEntries setup.tables → IsBoardOf setup.goal.grid b → IsAnswerOf (task_of_setup setup b) cost plan rows
+    → c ≡ stated setup b cost plan rows → IsCertificate c → IsCertificateOf setup.tables.split (task_of_setup setup b) c
 certificate_of setup b cost plan rows c goal there guides small start answers same is = record {
   sides = ap (λ (d : CertificateModel). d.grid) same;
   costs = ap (λ (d : CertificateModel). d.costs) same;
@@ -355,7 +355,7 @@ certificate_of setup b cost plan rows c goal there guides small start answers sa
   goal = ap (λ (d : CertificateModel). d.goal) same;
   certificate = is;
   version = ap (λ (d : CertificateModel). d.version) same;
-  leads = subst (λ (d : CertificateModel). ItsPlanLeads d) (sym same) (plan_leads (task_of setup b) cost plan rows answers);
+  leads = subst (λ (d : CertificateModel). ItsPlanLeads d) (sym same) (plan_leads (task_of_setup setup b) cost plan rows answers);
   below = subst (λ (d : CertificateModel). NothingBelow d.costs d.start d.goal d.cost) (sym same) answers.below;
   proved = subst (λ (d : CertificateModel). (tables : BoundModel) → AreBuiltFor d tables → IsProved d tables) (sym same) (proved_by setup b cost plan rows goal there guides small start answers);
 }

@@ -29,7 +29,7 @@ use Rattle.batch_lines.specs.declared.lines.TheConstants.{LINE_LIMIT}
 use Rattle.batch_lines.specs.declared.lines.LineKind.{LineKind}
 use Rattle.batch_lines.specs.declared.lines.LineKind.TheVariants.{PassedOver, TooLong, Within}
 use Rattle.batch_lines.specs.Words.{entry_code}
-use Rattle.batch_lines.specs.Lines.{kind_of, without_return, lines_of, onto_first, is_passed_over}
+use Rattle.batch_lines.specs.Lines.{line_kind_of, without_return, lines_of, onto_first, is_passed_over}
 use Rattle.reports.specs.Reports.{outcome_data, refused_data, refused_certificate_data, report_text}
 use Rattle.reports.specs.Readings.{HasSmallNumbers, HasStatus, IsReport, IsSmall, SaysNumber}
 use Rattle.reports.specs.Readings.IsReport.{of_outcome, of_line, of_cost, of_bound, of_certificate}
@@ -101,7 +101,7 @@ over_or true long = refl
 over_or false true = refl
 over_or false false = refl
 
-over_is : (line : List ℕ) → is_over (kind_of line) ≡ is_passed_over (without_return line)
+over_is : (line : List ℕ) → is_over (line_kind_of line) ≡ is_passed_over (without_return line)
 over_is line = over_or (is_passed_over (without_return line)) (nat_lt LINE_LIMIT (length (without_return line)))
 
 asks_not : (line : List ℕ) → IsPassedOver line → asks line ≡ false
@@ -116,7 +116,7 @@ asks_so : (line : List ℕ) → ¬ IsPassedOver line → asks line ≡ true
 asks_so line here = by_case (is_passed_over (without_return line)) refl
   where
     by_case : (over : Bool) → is_passed_over (without_return line) ≡ over → asks line ≡ true
-    by_case true e = absurd (here (kind_over (kind_of line) (over_is line ∙ e)))
+    by_case true e = absurd (here (kind_over (line_kind_of line) (over_is line ∙ e)))
     by_case false e = ap not e
 
 -- lines that are passed over ask nothing
@@ -247,15 +247,15 @@ module _ (rules : ProofRules) (line : List ℕ) (n : ℕ) (small : n < 2 ^ 64) w
       let alone : given ≡ outcome.Bounded bound None (Memory (Refused refused)) None = lone_bound given bound best cause says none ∙ (λ i. outcome.Bounded bound (no_plan i) (is i) None) in
       (id, b, bound, refused, names, subst (λ (f : Data). SaysNumber f (codes "bound") bound) same refl, subst (λ (o : Outcome). rules.allows b (Some o)) alone allowed)
 
-  entry_lacks : (answer : Answer) → kind_of line ≡ Within → AnswersEntry (report_rules rules) (without_return line) answer → NeedsReport answer → BoundsLackRows rules line (answer_text n answer)
+  entry_lacks : (answer : Answer) → line_kind_of line ≡ Within → AnswersEntry (report_rules rules) (without_return line) answer → NeedsReport answer → BoundsLackRows rules line (answer_text n answer)
   entry_lacks answer within (by_fault fault first) needs = refused_lacks (entry_code fault)
   entry_lacks answer within (by_outcome id b ending entry may fits) needs = ending_lacks id b ending (within, entry) may fits needs
   entry_lacks answer within (by_want id b entry lacking) needs = refused_lacks (codes "V3")
 
   line_lacks : (answer : Answer) → ¬ IsPassedOver line → AnswersLine (report_rules rules) line answer → NeedsReport answer → BoundsLackRows rules line (answer_text n answer)
-  line_lacks answer here is needs = by_kind (kind_of line) refl
+  line_lacks answer here is needs = by_kind (line_kind_of line) refl
     where
-      by_kind : (kind : LineKind) → kind_of line ≡ kind → BoundsLackRows rules line (answer_text n answer)
+      by_kind : (kind : LineKind) → line_kind_of line ≡ kind → BoundsLackRows rules line (answer_text n answer)
       by_kind PassedOver over = absurd (here over)
       by_kind TooLong long =
           let told = subst (λ (kind : LineKind). AnswersKind (report_rules rules) kind (without_return line) answer) long is in
@@ -424,18 +424,18 @@ pub bounds_certified : BoundsAreCertified
 bounds_certified id bound best cause alone = alone
 
 -- a line to be read whose board is reported as bounded
-entry_bounded : (rules : ProofRules) (line id : List ℕ) (bound : ℕ) (best : Option (ℕ × Vec Move Global)) (cause : Cause) → kind_of line ≡ Within → AnswersEntry (report_rules rules) (without_return line) (answered id (Bounded bound best cause)) → (b : BoardModel) × Names rules.grid line id b × rules.allows b (Some (outcome.Bounded bound best cause None))
+entry_bounded : (rules : ProofRules) (line id : List ℕ) (bound : ℕ) (best : Option (ℕ × Vec Move Global)) (cause : Cause) → line_kind_of line ≡ Within → AnswersEntry (report_rules rules) (without_return line) (answered id (Bounded bound best cause)) → (b : BoardModel) × Names rules.grid line id b × rules.allows b (Some (outcome.Bounded bound best cause None))
 entry_bounded rules line id bound best cause within (by_outcome name b ending entry (given, allowed, says, none) small) =
     (b, (within, entry), subst (λ (o : Outcome). rules.allows b (Some o)) (lone_bound given bound best cause says none) allowed)
 
 -- only such a line is answered by an ending
-entry_answered : (rules : ProofRules) (line id : List ℕ) (ending : Ending) → AnswersLine (report_rules rules) line (answered id ending) → (kind_of line ≡ Within) × AnswersEntry (report_rules rules) (without_return line) (answered id ending)
-entry_answered rules line id ending is = by_kind (kind_of line) refl
+entry_answered : (rules : ProofRules) (line id : List ℕ) (ending : Ending) → AnswersLine (report_rules rules) line (answered id ending) → (line_kind_of line ≡ Within) × AnswersEntry (report_rules rules) (without_return line) (answered id ending)
+entry_answered rules line id ending is = by_kind (line_kind_of line) refl
   where
-    answers_as : (kind : LineKind) → kind_of line ≡ kind → AnswersKind (report_rules rules) kind (without_return line) (answered id ending)
+    answers_as : (kind : LineKind) → line_kind_of line ≡ kind → AnswersKind (report_rules rules) kind (without_return line) (answered id ending)
     answers_as kind e = subst (λ (k : LineKind). AnswersKind (report_rules rules) k (without_return line) (answered id ending)) e is
 
-    by_kind : (kind : LineKind) → kind_of line ≡ kind → (kind_of line ≡ Within) × AnswersEntry (report_rules rules) (without_return line) (answered id ending)
+    by_kind : (kind : LineKind) → line_kind_of line ≡ kind → (line_kind_of line ≡ Within) × AnswersEntry (report_rules rules) (without_return line) (answered id ending)
     by_kind PassedOver over = let told = answers_as PassedOver over in absurd (cc)
     by_kind TooLong long = let told = answers_as TooLong long in absurd (cc)
     by_kind Within within = (within, answers_as Within within)

@@ -6,7 +6,7 @@ use Rattle.board.specs.declared.moves.Move.{Move}
 use Rattle.board.specs.Boards.{BoardModel}
 use Rattle.board.specs.declared.costs.TheConstants.{GREATEST_COST}
 use Rattle.board.specs.Plans.{Leads, NothingBelow}
-use Rattle.batch_lines.specs.Lines.{without_return, kind_of}
+use Rattle.batch_lines.specs.Lines.{without_return, line_kind_of}
 use Rattle.batch_lines.specs.Words.{IsEntry}
 use Rattle.batch_lines.specs.declared.lines.Line.{Line}
 use Rattle.batch_lines.specs.declared.lines.LineKind.TheVariants.{Within}
@@ -23,7 +23,7 @@ use Rattle.outcomes.specs.Outcomes.{Task, AreRowsOf, IsAboveSums, StandsAlone}
 use Rattle.batch_runs.specs.Batches.{Answer, AnswersKind, TakesSome, IsReadable, answer_text, with_answer, no_lines, status_of_counts}
 use Rattle.batch_runs.specs.Batches.Answer.{passed_over, refused, answered}
 use Rattle.batch_runs.specs.FirstLines.{FindsFirst, PassesAll, LosesFirst}
-use Rattle.batch_runs.specs.Setups.{SetupModel, task_of}
+use Rattle.batch_runs.specs.Setups.{SetupModel, task_of_setup}
 use Rattle.lower_bound.specs.Tables.{BoundModel}
 use Rattle.certificate_runs.specs.Outputs.{Output, IsUntouched}
 use Rattle.certificate_runs.specs.Rules.{ProofRules, ProvesTruly, rows_of, report_rules}
@@ -38,7 +38,7 @@ use Rattle.certificate_runs.specs.declared.faults.CertifyFault.TheVariants.{Read
 -- these rules are of a prover of the setup's boards, whose outcomes answer what is asked
 pub record AreRulesFor (setup : SetupModel) (rules : ProofRules) : Type 0 where
   pub grid : rules.grid ≡ setup.goal.grid
-  pub task : rules.task ≡ task_of setup
+  pub task : rules.task ≡ task_of_setup setup
   pub truthful : ProvesTruly rules
 
 -- A certificate that answers this task with these groups. Its plan, if it claims one, leads from the start to the goal at its cost, and no plan costs less than it states. Its rows prove that with the sums of the groups' tables, whoever builds them.
@@ -166,7 +166,7 @@ pub record HasFirst (source : Change SourceState) : Type 0 where
 
 -- its number, and what is to be done with it
 abbrev pub first_line : (source : Change SourceState) → HasFirst source → Line
-first_line source first = record { number = length first.passed + 1; kind = kind_of first.line }
+first_line source first = record { number = length first.passed + 1; kind = line_kind_of first.line }
 
 -- ---- how the run ends
 
@@ -178,7 +178,7 @@ abbrev pub ReportsFirstBoard : ProofRules → Change SourceState → Output → 
 ReportsFirstBoard rules source output = (first : HasFirst source) × ReportsLine rules (first_line source first) (without_return first.line) output
 
 abbrev pub CertifiesFirst : PartitionModel → ProofRules → Change SourceState → Output → Type 0
-CertifiesFirst split rules source output = (first : HasFirst source) × (kind_of first.line ≡ Within) × Certifies split rules (without_return first.line) output
+CertifiesFirst split rules source output = (first : HasFirst source) × (line_kind_of first.line ≡ Within) × Certifies split rules (without_return first.line) output
 
 -- there is no reply to the first line, by this fault
 abbrev pub LacksReply : ProofRules → Change SourceState → CertifyFault → Type 0

@@ -13,7 +13,7 @@ ghost use Rattle.certificate.specs.Certificates.{IsBoardOf, cost_of, plan_of};
 ghost use Rattle.certificate.specs.Spellings.{spelling};
 ghost use Rattle.certificate_runs.specs.declared.faults.CertifyFault.{CertifyFault};
 ghost use Rattle.batch_runs.specs.Batches.{HasFailed, no_lines, with_outcome, status_of_counts};
-ghost use Rattle.batch_runs.specs.Setups.{SetupModel, task_of};
+ghost use Rattle.batch_runs.specs.Setups.{SetupModel, task_of_setup};
 ghost use Rattle.certificate_runs.specs.Rules.{ProofRules, MayProve};
 ghost use Rattle.certificate_runs.specs.Certifying.{Replies, PutsReply};
 ghost use Rattle.certificate_runs.specs.Headline.{IsTrueAnswer};
@@ -215,8 +215,8 @@ fn certify(
     outcome: Outcome,
 ) -> Result<Made, OutOfMemory>
     requires start { IsBoardOf setup.now.goal.grid start }
-    requires answers { Answers (task_of setup.now start) outcome }
-    ensures made { IfOk result (IsMadeOf setup.now.tables.split (task_of setup.now start) outcome) }
+    requires answers { Answers (task_of_setup setup.now start) outcome }
+    ensures made { IfOk result (IsMadeOf setup.now.tables.split (task_of_setup setup.now start) outcome) }
     ensures lacking { OnErr result (IsCertifiable outcome) }
 {
     match outcome {
@@ -251,9 +251,9 @@ fn certify_claim(
     rows: Vec<(Board, u32)>,
 ) -> Result<Certificate, OutOfMemory>
     requires start { IsBoardOf setup.now.goal.grid start }
-    requires answers { IsAnswerOf (task_of setup.now start) (cost_of claim) (plan_of claim) rows.items }
+    requires answers { IsAnswerOf (task_of_setup setup.now start) (cost_of claim) (plan_of claim) rows.items }
     ensures certificate { IfOk result
-        (IsCertificateOf setup.now.tables.split (task_of setup.now start)) }
+        (IsCertificateOf setup.now.tables.split (task_of_setup setup.now start)) }
     ensures claims { IfOk result (λ c.
         (c.cost ≡ cost_of claim) × (c.plan ≡ plan_of claim) × (c.rows ≡ rows.items)) }
 {

@@ -12,6 +12,6 @@ checked_code (Memory refused) = codes "V3"
 checked_code (Refused refusal) = codes "V4"
 
 -- a world's fault, as one of a checked run
-abbrev pub of_world : WorldFault → CheckedFault
-of_world world.WorkerCount = WorkerCount
-of_world (world.Memory refused) = Memory refused
+abbrev pub of_world_fault : WorldFault → CheckedFault
+of_world_fault world.WorkerCount = WorkerCount
+of_world_fault (world.Memory refused) = Memory refused

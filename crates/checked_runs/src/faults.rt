@@ -38,12 +38,12 @@ impl CheckedFault {
 impl From<WorldFault> for CheckedFault {
     ghost use Rattle.std.specs.Prelude.{◌≡◌};
     ghost use Rattle.hda_run.specs.Faults.{world_code};
-    ghost use Rattle.checked_runs.specs.Faults.{checked_code, of_world};
+    ghost use Rattle.checked_runs.specs.Faults.{checked_code, of_world_fault};
 
-    ghost from_gives = { λ fault checked. checked ≡ of_world fault };
+    ghost from_gives = { λ fault checked. checked ≡ of_world_fault fault };
 
     fn from(fault: WorldFault) -> CheckedFault
-        ensures given { result ≡ of_world fault }
+        ensures given { result ≡ of_world_fault fault }
         ensures code { checked_code result ≡ world_code fault }
     {
         match fault {

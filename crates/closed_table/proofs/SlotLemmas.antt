@@ -6,7 +6,7 @@ use Rattle.world_model.specs.declared.parts.Known.{Known}
 use Rattle.closed_table.specs.declared.index.Slot.{Slot}
 use Rattle.closed_table.specs.declared.table.Closed.TheInside.{Inside}
 use Rattle.closed_table.specs.Tables.{ClosedModel}
-use Rattle.closed_table.specs.Chains.{key_in, key_at, slot_at, no_slot, row_of, chain_count, IsIndexed}
+use Rattle.closed_table.specs.Chains.{key_in, key_at, slot_at, no_slot, row_of_slot, chain_count, IsIndexed}
 use Rattle.closed_table.specs.Storage.{table_of, IsSoundTable}
 use Rattle.closed_table.proofs.FindLemmas.{read_at}
 use Rattle.closed_table.proofs.IndexLemmas.{set_indexed}
@@ -44,8 +44,8 @@ module _ (s : Inside) (sound : IsSoundTable s) (t : ClosedModel) (view : table_o
       slot_is : read ≡ slot_at s.index.slots place
       slot_is = slot_there s sound place lt read is
 
-      pub known_there : map.get t.known key ≡ Some (row_of read).1
-      known_there = ap (λ (u : ClosedModel). map.get u.known key) (sym view) ∙ known_at s.index.slots s.index.len sound.indexed.in_slots sound.indexed.different place key lt there ∙ ap (λ (x : Slot). Some (row_of x).1) (sym slot_is)
+      pub known_there : map.get t.known key ≡ Some (row_of_slot read).1
+      known_there = ap (λ (u : ClosedModel). map.get u.known key) (sym view) ∙ known_at s.index.slots s.index.len sound.indexed.in_slots sound.indexed.different place key lt there ∙ ap (λ (x : Slot). Some (row_of_slot x).1) (sym slot_is)
 
       -- the slot with something else known of its key
       module _ (k : Known) (after : List Slot) (put : after ≡ set s.index.slots place (record read { cost = k.cost; expanded = k.expanded; via = k.via })) where

@@ -12,8 +12,8 @@ use Rattle.closed_table.specs.declared.index.Bucket.{Bucket}
 use Rattle.closed_table.specs.declared.index.Index.{Index}
 
 -- the hash of a key
-unfoldable pub hash_of : ℕ → ℕ
-hash_of key = key * 0x9E3779B97F4A7C15F39CC0605CEDC835 % 2 ^ 128 / 2 ^ 96
+unfoldable pub key_hash : ℕ → ℕ
+key_hash key = key * 0x9E3779B97F4A7C15F39CC0605CEDC835 % 2 ^ 128 / 2 ^ 96
 
 -- how many chains there are for so many slots
 abbrev pub chain_count : ℕ → ℕ
@@ -59,7 +59,7 @@ abbrev pub key_at : List Slot → ℕ → ℕ
 key_at slots i = key_in (slot_at slots i)
 
 abbrev pub hash_at : List Slot → ℕ → ℕ
-hash_at slots i = hash_of (key_at slots i)
+hash_at slots i = key_hash (key_at slots i)
 
 abbrev pub chain_at : List Slot → ℕ → ℕ → ℕ → ℕ
 chain_at slots bits n i = place bits n (hash_at slots i)
@@ -122,27 +122,27 @@ pub record IsPlace (place n : ℕ) : Type 0 where
   pub small : place < 2 ^ 32 - 1
 
 -- what a slot says of its key
-abbrev pub row_of : Slot → ℕ × Known
-row_of slot = (key_in slot, record { cost = slot.cost; expanded = slot.expanded; via = slot.via })
+abbrev pub row_of_slot : Slot → ℕ × Known
+row_of_slot slot = (key_in slot, record { cost = slot.cost; expanded = slot.expanded; via = slot.via })
 
 -- what is said of a board that is met the first time
 abbrev pub new_row : ℕ → ℕ → Move → ℕ × Known
 new_row key cost via = (key, record { cost = cost; expanded = false; via = via })
 
-abbrev pub rows_of : List Slot → ℕ → List (ℕ × Known)
-rows_of slots len = map row_of (take len slots)
+abbrev pub rows_of_slots : List Slot → ℕ → List (ℕ × Known)
+rows_of_slots slots len = map row_of_slot (take len slots)
 
 -- whether a hash stays in its chain when one is added to n, or goes to the one that is added
 abbrev pub stays : ℕ → ℕ → ℕ → ℕ → Bool
 stays bits n from hash = place bits (n + 1) hash == from
 
-abbrev pub goes : ℕ → ℕ → ℕ → ℕ → Bool
-goes bits n from hash = not (place bits (n + 1) hash == from)
+abbrev pub moves_on : ℕ → ℕ → ℕ → ℕ → Bool
+moves_on bits n from hash = not (place bits (n + 1) hash == from)
 
 -- of the first so many slots in a bucket, the bucket of those whose hash passes a test
-unfoldable pub part_of : (ℕ → Bool) → Bucket → ℕ → Bucket
-part_of test bucket zero = no_bucket
-part_of test bucket (suc k) = cond (test (slice_index bucket.hashes k)) (bucket_with (part_of test bucket k) (slice_index bucket.places k) (slice_index bucket.hashes k)) (part_of test bucket k)
+unfoldable pub bucket_part : (ℕ → Bool) → Bucket → ℕ → Bucket
+bucket_part test bucket zero = no_bucket
+bucket_part test bucket (suc k) = cond (test (slice_index bucket.hashes k)) (bucket_with (bucket_part test bucket k) (slice_index bucket.places k) (slice_index bucket.hashes k)) (bucket_part test bucket k)
 
 -- two buckets are the halves of the slots of a chain before each place where its bucket is as full as in the end, and
 -- its list begins with this link

@@ -3,12 +3,12 @@ use Rattle.std.specs.Prelude.{◌≡◌, ◌+◌, ◌≤◌, ◌<◌, ◌^◌, l
 use Rattle.std.specs.FinMap as fin
 use Rattle.std.specs.Ordering.{nat_cmp}
 use Rattle.closed_table.specs.Tables.{ClosedModel}
-use Rattle.closed_table.specs.Chains.{rows_of, chain_count, IsIndexed, AreClear}
+use Rattle.closed_table.specs.Chains.{rows_of_slots, chain_count, IsIndexed, AreClear}
 use Rattle.closed_table.specs.declared.table.Closed.TheInside.{Inside}
 
 -- the table of these rows
 abbrev pub table_of : Inside → ClosedModel
-table_of s = record { keys = map (λ row. row.0) (rows_of s.index.slots s.index.len); known = fin.from_entries {R = nat_cmp} (rows_of s.index.slots s.index.len); room = s.room }
+table_of s = record { keys = map (λ row. row.0) (rows_of_slots s.index.slots s.index.len); known = fin.from_entries {R = nat_cmp} (rows_of_slots s.index.slots s.index.len); room = s.room }
 
 -- the index is in order, there is a place for each slot that was promised, and a link can tell each; while there is
 -- no slot, each bucket is that of a chain with none

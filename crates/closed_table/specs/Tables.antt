@@ -50,5 +50,5 @@ table_closure t key None = t
 table_closure t key (Some known) = record t { known = map.insert t.known key (record known { expanded = true }) }
 
 -- tables as numbers, by which a proof tells them apart
-abbrev pub table_code : Coded ClosedModel
-table_code = code_by (List ℕ × (Knowledge × ℕ)) (coded× (coded_list coded_ℕ) (coded× knowledge_code coded_ℕ)) (λ t. (t.keys, (t.known, t.room))) (λ p. record { keys = p.0; known = p.1.0; room = p.1.1 }) (λ _. refl)
+abbrev pub closed_code : Coded ClosedModel
+closed_code = code_by (List ℕ × (Knowledge × ℕ)) (coded× (coded_list coded_ℕ) (coded× knowledge_code coded_ℕ)) (λ t. (t.keys, (t.known, t.room))) (λ p. record { keys = p.0; known = p.1.0; room = p.1.1 }) (λ _. refl)

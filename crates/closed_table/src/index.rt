@@ -4,12 +4,13 @@ ghost use Rattle.std.specs.Prelude.{◌≡◌, ◌≢◌, ◌<◌, ◌≤◌, �
 ghost use Rattle.std.specs.Prelude.{if◌then◌else◌, length, min, List, IsTrue, IsFalse, MatchOption};
 ghost use Rattle.std.specs.Prelude.{OnOk};
 ghost use Rattle.std.specs.Prelude.{slice_index, slice_index_or, slice_set};
-ghost use Rattle.closed_table.specs.Chains.{hash_of, place, bucket_with, AreBitsFor};
+ghost use Rattle.closed_table.specs.Chains.{key_hash, place, bucket_with, AreBitsFor};
 ghost use Rattle.closed_table.specs.Chains.{HasPlacesBelow};
 ghost use Rattle.closed_table.specs.Chains.{IsIndexInOrder, IsIndexGrown, IsPlace, HasNextChains};
 ghost use Rattle.closed_table.specs.Chains.{HasNoKey};
-ghost use Rattle.closed_table.specs.Chains.{key_at, key_in, chain_count, row_of, rows_of, new_row};
-ghost use Rattle.closed_table.specs.Chains.{part_of, stays, goes, AreClear};
+ghost use Rattle.closed_table.specs.Chains.{key_at, key_in, chain_count, row_of_slot};
+ghost use Rattle.closed_table.specs.Chains.{rows_of_slots, new_row};
+ghost use Rattle.closed_table.specs.Chains.{bucket_part, stays, moves_on, AreClear};
 ghost use Rattle.closed_table.specs.Chains.{IsRelinked, MayBeRelinked};
 ghost use Rattle.closed_table.specs.declared.index.TheConstants.{FIRST_CHAINS, LOAD};
 
@@ -112,7 +113,7 @@ pub(crate) fn grow_to<T: Copy>(
 
 // The hash of a key.
 pub(crate) fn hash(key: u128) -> u32
-    ensures { result ≡ hash_of key }
+    ensures { result ≡ key_hash key }
 {
     (key.wrapping_mul(FACTOR) >> 96) as u32
 }
@@ -143,7 +144,7 @@ fn chain_of(hash: u32, bits: u32, chains: usize) -> usize
 
 // The slot of a board that is met the first time.
 fn new_slot(key: u128, cost: u32, via: Move) -> Slot
-    ensures { row_of result ≡ new_row key cost via }
+    ensures { row_of_slot result ≡ new_row key cost via }
 {
     Slot {
         high: (key / 0x1_0000_0000_0000_0000) as u64,
@@ -217,7 +218,7 @@ fn find_inside(bucket: &Bucket, slots: &Pages<Slot>, key: u128, hash: u32) -> Op
 // The place of a key among the slots.
 pub(crate) fn find(index: &Index, key: u128, hash: u32) -> Option<usize>
     requires indexed { IsIndexInOrder index.now }
-    requires hash { hash ≡ hash_of key }
+    requires hash { hash ≡ key_hash key }
     ensures { MatchOption result (HasNoKey index.now key)
         (λ i. (i < index.now.len) × (key_at index.now.slots i ≡ key)) }
 {
@@ -282,8 +283,8 @@ fn divided(bucket: &Bucket, bits: u32, chains: usize, from: usize) -> Halves
     requires bits { AreBitsFor bits chains }
     requires few { chains < 2 ^ 32 }
     requires places { HasPlacesBelow bucket.now (2 ^ 32 - 1) }
-    ensures stay { result.stay ≡ part_of (stays bits chains from) bucket.now bucket.now.count }
-    ensures go { result.go ≡ part_of (goes bits chains from) bucket.now bucket.now.count }
+    ensures stay { result.stay ≡ bucket_part (stays bits chains from) bucket.now bucket.now.count }
+    ensures go { result.go ≡ bucket_part (moves_on bits chains from) bucket.now bucket.now.count }
 {
     let mut halves = Halves {
         stay: NO_BUCKET,
@@ -430,10 +431,10 @@ fn make_chains(index: &mut Index)
 pub(crate) fn add(index: &mut Index, key: u128, hash: u32, cost: u32, via: Move)
     requires chains { HasNextChains index.old }
     requires place { IsPlace index.old.len (min (length index.old.slots) (length index.old.links)) }
-    requires hash { hash ≡ hash_of key }
+    requires hash { hash ≡ key_hash key }
     requires absent { HasNoKey index.old key }
     ensures grown { IsIndexGrown index.old index.new (chain_count index.new.len) (index.old.len + 1) }
-    ensures rows { rows_of index.new.slots index.new.len ≡ rows_of index.old.slots index.old.len
+    ensures rows { rows_of_slots index.new.slots index.new.len ≡ rows_of_slots index.old.slots index.old.len
         ++ new_row key cost via ∷ [] }
 {
     make_chains(index);

@@ -48,12 +48,12 @@ pub struct Closed {
 }
 
 impl Model for Closed {
-    ghost use Rattle.closed_table.specs.Tables.{ClosedModel, table_code};
+    ghost use Rattle.closed_table.specs.Tables.{ClosedModel, closed_code};
     ghost use Rattle.closed_table.specs.Storage.{table_of, IsSoundTable};
 
     ghost Value = { ClosedModel };
 
-    ghost coded = { table_code };
+    ghost coded = { closed_code };
 
     ghost view = { table_of };
 

@@ -228,7 +228,7 @@ plans stay the same";
 pub(crate) const WORKERS: &str =
     "Number of workers, 1 to 16: they solve lines side by side, or share one";
 
-/// The same of `replay`.
+/// The option `--workers` of `replay`.
 pub(crate) const REPLAYED_WORKERS: &str = "Number of workers that share the board, 1 to 16";
 
 /// The option `--spread`.
@@ -238,7 +238,7 @@ pub(crate) const SPREAD: &str =
 /// The option `--limit`.
 pub(crate) const LIMIT: &str = "Maximum number of boards to expand for each line, 0 or more";
 
-/// The same of `replay`.
+/// The option `--limit` of `replay`.
 pub(crate) const REPLAYED_LIMIT: &str =
     "Maximum number of boards that the workers expand in all, 0 or more";
 

@@ -132,7 +132,7 @@ impl Table {
     }
 
     /// The value of the view with a slot, found with one read unless it keeps its values by rank.
-    #[inline]
+    #[inline(always)]
     pub fn slot_value(&self, slot: usize) -> u16
         requires { (v : ViewModel) × IsView self.now.selection.grid self.now.selection.tiles v
             × (slot_in self.now.selection.grid v ≡ slot) }

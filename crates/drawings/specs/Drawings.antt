@@ -44,8 +44,8 @@ abbrev pub at_right : ℕ → List ℕ → List ℕ
 at_right columns text = replicate (columns - length text) 32 ++ text
 
 -- the number of a tile, or a dot for the blank
-abbrev pub tile_text : ℕ → List ℕ
-tile_text tile = if tile == 0 then codes "." else decimal tile
+abbrev pub tile_cell_text : ℕ → List ℕ
+tile_cell_text tile = if tile == 0 then codes "." else decimal tile
 
 -- the caption: `start`, `goal`, or the number of a move and its letter
 abbrev pub caption_text : Caption → List ℕ
@@ -62,20 +62,20 @@ abbrev pub tiles_in_row : BoardModel → ℕ → List ℕ
 tiles_in_row b row = take b.grid.cols (drop (row * b.grid.cols) b.tiles)
 
 -- a row of a board
-abbrev pub row_text : ℕ → Picture → List ℕ
-row_text row p = codes "   " ++ flat_map (λ tile. at_right 3 (tile_text tile)) (tiles_in_row p.board row)
+abbrev pub board_row_text : ℕ → Picture → List ℕ
+board_row_text row p = codes "   " ++ flat_map (λ tile. at_right 3 (tile_cell_text tile)) (tiles_in_row p.board row)
 
 -- the caption of a board
 abbrev pub heading_text : Picture → List ℕ
 heading_text p = at_right (columns_of p.board.grid) (caption_text p.caption)
 
 -- a line of what is side by side
-abbrev pub line_text : (Picture → List ℕ) → List Picture → List ℕ
-line_text part pictures = flat_map part pictures ++ 10 ∷ []
+abbrev pub picture_line_text : (Picture → List ℕ) → List Picture → List ℕ
+picture_line_text part pictures = flat_map part pictures ++ 10 ∷ []
 
 -- boards side by side: their captions, their rows, and an empty line
 abbrev pub band_text : ShapeModel → List Picture → List ℕ
-band_text grid pictures = line_text heading_text pictures ++ (flat_map (λ row. line_text (row_text row) pictures) (range_with_len 0 grid.rows) ++ 10 ∷ [])
+band_text grid pictures = picture_line_text heading_text pictures ++ (flat_map (λ row. picture_line_text (board_row_text row) pictures) (range_with_len 0 grid.rows) ++ 10 ∷ [])
 
 -- how many boards are side by side
 abbrev pub boards_within : ℕ → ShapeModel → ℕ
@@ -90,13 +90,13 @@ abbrev pub bands_text : ShapeModel → ℕ → List Picture → List ℕ
 bands_text grid n pictures = flat_map (λ k. band_text grid (band_of n pictures k)) (range_with_len 0 (div_ceil (length pictures) n))
 
 -- the last line: the number of the plan's moves and its cost, or the bound
-abbrev pub claim_text : Option (List Move) → ℕ → List ℕ
-claim_text (Some plan) cost = codes "moves: " ++ (decimal (length plan) ++ (codes ", cost: " ++ (decimal cost ++ codes " (claimed to be least)\n")))
-claim_text None bound = codes "bound: " ++ (decimal bound ++ codes " (claimed: no plan costs less)\n")
+abbrev pub last_line_text : Option (List Move) → ℕ → List ℕ
+last_line_text (Some plan) cost = codes "moves: " ++ (decimal (length plan) ++ (codes ", cost: " ++ (decimal cost ++ codes " (claimed to be least)\n")))
+last_line_text None bound = codes "bound: " ++ (decimal bound ++ codes " (claimed: no plan costs less)\n")
 
 -- all pictures, and what is claimed
 abbrev pub drawing_text : ℕ → CertificateModel → List Picture → List ℕ
-drawing_text width c pictures = bands_text c.grid (boards_within width c.grid) pictures ++ claim_text c.plan c.cost
+drawing_text width c pictures = bands_text c.grid (boards_within width c.grid) pictures ++ last_line_text c.plan c.cost
 
 -- These bytes draw the certificate: as text within `width` columns. What an SVG file looks like is not said here.
 abbrev pub IsDrawing : Style → CertificateModel → List ℕ → Type 0

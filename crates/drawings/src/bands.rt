@@ -2,8 +2,9 @@
 
 ghost use Rattle.std.specs.Prelude.{ℕ, ◌≡◌, ◌++◌, ◌∷◌, [], ◌<◌, OnOk, codes};
 ghost use Rattle.std.specs.List.{flat_map, range_with_len};
-ghost use Rattle.drawings.specs.Drawings.{at_right, tile_text, caption_text, columns_of};
-ghost use Rattle.drawings.specs.Drawings.{tiles_in_row, row_text, heading_text, line_text};
+ghost use Rattle.drawings.specs.Drawings.{at_right, tile_cell_text, caption_text, columns_of};
+ghost use Rattle.drawings.specs.Drawings.{tiles_in_row, board_row_text, heading_text};
+ghost use Rattle.drawings.specs.Drawings.{picture_line_text};
 ghost use Rattle.drawings.specs.Drawings.{band_text, bands_text};
 
 use crate::pictures::{Caption, Picture};
@@ -41,7 +42,7 @@ fn push_band(text: &mut Vec<u8>, shape: Shape, pictures: &[Picture]) -> Result<(
 // The line of captions.
 fn push_headings(text: &mut Vec<u8>, pictures: &[Picture]) -> Result<(), OutOfMemory>
     ensures { OnOk result
-        (text.new.items ≡ text.old.items ++ line_text heading_text pictures.now) }
+        (text.new.items ≡ text.old.items ++ picture_line_text heading_text pictures.now) }
 {
     'pictures: for picture in pictures {
         push_heading(text, picture)?;
@@ -81,7 +82,7 @@ fn push_step(
 // The lines of the boards' rows.
 fn push_rows(text: &mut Vec<u8>, rows: u8, pictures: &[Picture]) -> Result<(), OutOfMemory>
     ensures { OnOk result (text.new.items ≡ text.old.items
-        ++ flat_map (λ row. line_text (row_text row) pictures.now) (range_with_len 0 rows)) }
+        ++ flat_map (λ row. picture_line_text (board_row_text row) pictures.now) (range_with_len 0 rows)) }
 {
     'rows: for row in 0..rows {
         push_row_line(text, row, pictures)?;
@@ -92,7 +93,7 @@ fn push_rows(text: &mut Vec<u8>, rows: u8, pictures: &[Picture]) -> Result<(), O
 // The line of one row of the boards.
 fn push_row_line(text: &mut Vec<u8>, row: u8, pictures: &[Picture]) -> Result<(), OutOfMemory>
     ensures { OnOk result
-        (text.new.items ≡ text.old.items ++ line_text (row_text row) pictures.now) }
+        (text.new.items ≡ text.old.items ++ picture_line_text (board_row_text row) pictures.now) }
 {
     'pictures: for picture in pictures {
         push_row(text, row, picture)?;
@@ -102,7 +103,7 @@ fn push_row_line(text: &mut Vec<u8>, row: u8, pictures: &[Picture]) -> Result<()
 
 // A row of a board, with three columns at its left.
 fn push_row(text: &mut Vec<u8>, row: u8, picture: &Picture) -> Result<(), OutOfMemory>
-    ensures { OnOk result (text.new.items ≡ text.old.items ++ row_text row picture.now) }
+    ensures { OnOk result (text.new.items ≡ text.old.items ++ board_row_text row picture.now) }
 {
     push_all(text, b"   ")?;
     push_tiles(text, row_tiles(&picture.board, row))
@@ -111,7 +112,7 @@ fn push_row(text: &mut Vec<u8>, row: u8, picture: &Picture) -> Result<(), OutOfM
 // Tiles, each at the right of three columns.
 fn push_tiles(text: &mut Vec<u8>, tiles: &[u8]) -> Result<(), OutOfMemory>
     ensures { OnOk result (text.new.items ≡ text.old.items
-        ++ flat_map (λ tile. at_right 3 (tile_text tile)) tiles.now) }
+        ++ flat_map (λ tile. at_right 3 (tile_cell_text tile)) tiles.now) }
 {
     'tiles: for tile in tiles {
         push_tile(text, *tile)?;
@@ -121,7 +122,7 @@ fn push_tiles(text: &mut Vec<u8>, tiles: &[u8]) -> Result<(), OutOfMemory>
 
 // A tile, or a dot for the blank, at the right of three columns.
 fn push_tile(text: &mut Vec<u8>, tile: u8) -> Result<(), OutOfMemory>
-    ensures { OnOk result (text.new.items ≡ text.old.items ++ at_right 3 (tile_text tile)) }
+    ensures { OnOk result (text.new.items ≡ text.old.items ++ at_right 3 (tile_cell_text tile)) }
 {
     if tile == 0 {
         return push_at_right(text, 3, b".");

@@ -20,7 +20,7 @@ use Rattle.world_model.specs.BookSteps.{AtBook}
 use Rattle.world_model.specs.Credit.{IsCredited}
 use Rattle.world_model.specs.Shapes.{IsShaped, IsTask}
 use Rattle.world_model.specs.Soundness.{IsSound}
-use Rattle.world_model.specs.Steps.{ByWorker, OnBook, with_worker, OnLane, from_to, with_lane}
+use Rattle.world_model.specs.Steps.{ByWorker, OnBook, with_worker, OnLane, lane_ends, with_lane}
 use Rattle.world_model.specs.Turns.{Turn, turn}
 use Rattle.world_model.specs.Workers.{WorkerState, Lane}
 use Rattle.world_model.specs.Worlds.{IsWorker, Knows, role_of, IsLane}
@@ -239,7 +239,7 @@ module _ {S : Type 0} (owner_of : S → ℕ → BoardModel → ℕ) (parts : Par
       lanes = lanes_are lane' t;
     }
 
-    pub on_lane : ¬ ((from ≡ to) ⊎ (length (world_of owner_of parts).workers ≤ from) ⊎ (length (world_of owner_of parts).workers ≤ to)) → (LaneStep : Turn AtLane Refusal → Type 0) (answer : Option Refusal) (worker' : W) (lane' : Lane) → LaneStep (turn (at_lane (state_of worker) lane) answer (at_lane (state_of worker') lane')) → OnLane me (from_to from to) LaneStep (turn (world_of owner_of parts) answer (world_of owner_of (record parts { workers = with_item parts.workers me worker'; lanes = with_item parts.lanes from (with_item row to lane') })))
+    pub on_lane : ¬ ((from ≡ to) ⊎ (length (world_of owner_of parts).workers ≤ from) ⊎ (length (world_of owner_of parts).workers ≤ to)) → (LaneStep : Turn AtLane Refusal → Type 0) (answer : Option Refusal) (worker' : W) (lane' : Lane) → LaneStep (turn (at_lane (state_of worker) lane) answer (at_lane (state_of worker') lane')) → OnLane me (lane_ends from to) LaneStep (turn (world_of owner_of parts) answer (world_of owner_of (record parts { workers = with_item parts.workers me worker'; lanes = with_item parts.lanes from (with_item row to lane') })))
     on_lane two LaneStep answer worker' lane' own =
         inr (two, (state_of worker, lane, at_lane (state_of worker') lane', is_worker owner_of parts me worker within at, is_lane lane lane_in lane_at, own, lane_changed worker' lane'))
 

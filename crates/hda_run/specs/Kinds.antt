@@ -6,16 +6,16 @@ use Rattle.hda_run.specs.declared.gates.Kind.{Kind}
 use Rattle.hda_run.specs.declared.gates.Kind.TheVariants.{Expand, Settle, Send, Deliver, Draw, Announce, Grant, Rest, Halt}
 
 -- which of the nine steps it is
-abbrev pub kind_of : Step → Kind
-kind_of (steps.Expand i) = Expand
-kind_of (steps.Settle i) = Settle
-kind_of (steps.Send i j) = Send
-kind_of (steps.Deliver i j) = Deliver
-kind_of (steps.Draw i) = Draw
-kind_of (steps.Announce i) = Announce
-kind_of (steps.Grant i) = Grant
-kind_of (steps.Rest i) = Rest
-kind_of (steps.Halt i cause) = Halt
+abbrev pub step_kind_of : Step → Kind
+step_kind_of (steps.Expand i) = Expand
+step_kind_of (steps.Settle i) = Settle
+step_kind_of (steps.Send i j) = Send
+step_kind_of (steps.Deliver i j) = Deliver
+step_kind_of (steps.Draw i) = Draw
+step_kind_of (steps.Announce i) = Announce
+step_kind_of (steps.Grant i) = Grant
+step_kind_of (steps.Rest i) = Rest
+step_kind_of (steps.Halt i cause) = Halt
 
 -- the step is by a worker that isn't one of n, or along a lane between two that aren't two of them
 abbrev pub Lacks : ℕ → Step → Type 0

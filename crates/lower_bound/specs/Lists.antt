@@ -6,18 +6,18 @@ use Rattle.database_build.specs.Folds.{FoldedModel}
 use Rattle.lower_bound.specs.Folded.{AreFolded}
 use Rattle.lower_bound.specs.Tables.{BoundModel, AreWhole}
 use Rattle.lower_bound.specs.declared.bound.Held.{Held}
-use Rattle.lower_bound.specs.declared.bound.Held.TheVariants as memory
+use Rattle.lower_bound.specs.declared.bound.Held.TheVariants as held
 use Rattle.lower_bound.specs.declared.bound.TableList.{TableList}
 use Rattle.lower_bound.specs.declared.bound.TableList.TheVariants.{Whole, Folded}
 
 -- the whole tables that are held, and the folded ones
 abbrev pub lookups_in : Held → List TableModel
-lookups_in (memory.Whole tables) = tables.items
-lookups_in (memory.Folded folds) = []
+lookups_in (held.Whole tables) = tables.items
+lookups_in (held.Folded folds) = []
 
 abbrev pub folds_in : Held → List FoldedModel
-folds_in (memory.Whole tables) = []
-folds_in (memory.Folded folds) = folds.items
+folds_in (held.Whole tables) = []
+folds_in (held.Folded folds) = folds.items
 
 -- a partition with the tables that are held
 abbrev pub tables_in : PartitionModel → Held → BoundModel
@@ -25,8 +25,8 @@ tables_in split held = record { split = split; lookups = lookups_in held; folds 
 
 -- the tables that are held are whole
 abbrev pub AreHeldWhole : Held → Type 0
-AreHeldWhole (memory.Whole tables) = ⊤
-AreHeldWhole (memory.Folded folds) = ⊥
+AreHeldWhole (held.Whole tables) = ⊤
+AreHeldWhole (held.Folded folds) = ⊥
 
 -- these are the tables: all of them whole, or all of them folded
 abbrev pub AreListed : BoundModel → TableList → Type 0

@@ -16,7 +16,7 @@ use Rattle.board.specs.Faults.{IsFirstZero, IsFirstWeightsFault}
 use Rattle.board.specs.declared.faults.WeightsFault.{WeightsFault}
 use Rattle.board.specs.declared.faults.WeightsFault.TheVariants.{WrongCount, WeightOutOfRange}
 use Rattle.board.proofs.WeightLemmas.{rule_has_no_fault, one_fault}
-use Rattle.batch_lines.specs.Words.{SpellsNumber, SpellEach}
+use Rattle.batch_lines.specs.Words.{SpellsDecimal, SpellEach}
 use Rattle.option_texts.specs.Texts.{comma_words, SpellsWeight, SaysWeights, SaysCosts}
 use Rattle.option_texts.specs.Texts.{weight_number}
 use Rattle.option_texts.specs.Faults.{IsFirstWeightWord, IsFirstWeightFault, IsFirstCostsFault}
@@ -37,7 +37,7 @@ number_high : (word : List ℕ) → weight_number word < 256
 number_high word = number_stays (list_all is_ascii_digit word) (nat_lt (digits_value 10 word) 256) (digits_value 10 word) refl
 
 -- a word whose number is not 0 spells that number, which is a weight
-spells_number : (word : List ℕ) → 1 ≤ weight_number word → SpellsNumber word (weight_number word)
+spells_number : (word : List ℕ) → 1 ≤ weight_number word → SpellsDecimal word (weight_number word)
 spells_number word some =
     let parts = parts_of_some (list_all is_ascii_digit word) (nat_lt (digits_value 10 word) 256) (digits_value 10 word) some in
     record {
@@ -58,7 +58,7 @@ spells_weight word some = record {
 }
 
 -- the number of a word that spells one below 256
-number_spelled : (word : List ℕ) (n : ℕ) → SpellsNumber word n → n < 256 → weight_number word ≡ n
+number_spelled : (word : List ℕ) (n : ℕ) → SpellsDecimal word n → n < 256 → weight_number word ≡ n
 number_spelled word n spells small =
     let all : list_all is_ascii_digit word ≡ true = list_all-from_AllPass is_ascii_digit word (λ k d l. tested (get_or word k d) (spells.digits k d l)) in
     let below : nat_lt (digits_value 10 word) 256 ≡ true = lt-ltb (digits_value 10 word) 256 (omega (arith, spells.value, small)) in

@@ -19,7 +19,7 @@ use Rattle.batch_lines.proofs.FaultLemmas.{spelled}
 use Rattle.option_texts.specs.Texts.{comma_words, IsGoalOf, group_numbers, IsGroupOf, AreGroupsOf}
 use Rattle.std.proofs.lemmas.Option.{slice_get_within}
 use Rattle.board.specs.declared.faults.TilesFault.TheVariants.{WrongCount, TileOutOfRange, TileRepeated}
-use Rattle.batch_lines.specs.Words.{SpellsNumber, SpellEach, IsFirstWordFault}
+use Rattle.batch_lines.specs.Words.{SpellsDecimal, SpellEach, IsFirstWordFault}
 
 -- what is read of each item, item by item
 pub read_each : {Y : Type 0} (f : List ℕ → Y) (words : List (Bor (List ℕ))) → map (λ (word : Bor (List ℕ)). f word.now) words ≡ map f (map (λ (word : Bor (List ℕ)). word.now) words)
@@ -161,7 +161,7 @@ groups_fit grid (t ∷ texts) (g ∷ groups) made (suc k) d within = groups_fit 
 -- ---- The goal that words say, and that these words have no fault.
 
 -- a word spells one number
-one_number : (word : List ℕ) (n m : ℕ) → SpellsNumber word n → SpellsNumber word m → m ≡ n
+one_number : (word : List ℕ) (n m : ℕ) → SpellsDecimal word n → SpellsDecimal word m → m ≡ n
 one_number word n m first second = sym second.value ∙ first.value
 
 -- words spell one list of numbers
@@ -183,10 +183,10 @@ some_word : (word found : List ℕ) → Some word ≡ Some found → word ≡ fo
 some_word word found e = cc
 
 -- the word at a place spells the number there
-spelled_at : (words : List (List ℕ)) (ns : List ℕ) (place : ℕ) (word : List ℕ) → SpellEach words ns → slice_get words place ≡ Some word → SpellsNumber word (get_or ns place 0)
+spelled_at : (words : List (List ℕ)) (ns : List ℕ) (place : ℕ) (word : List ℕ) → SpellEach words ns → slice_get words place ≡ Some word → SpellsDecimal word (get_or ns place 0)
 spelled_at [] ns place word spelled at = absurd (omega (arith, slice_get_within [] place word at))
 spelled_at (first ∷ words) [] place word spelled at = absurd spelled
-spelled_at (first ∷ words) (n ∷ ns) zero word spelled at = subst (λ (w : List ℕ). SpellsNumber w n) (some_word first word at) spelled.0
+spelled_at (first ∷ words) (n ∷ ns) zero word spelled at = subst (λ (w : List ℕ). SpellsDecimal w n) (some_word first word at) spelled.0
 spelled_at (first ∷ words) (n ∷ ns) (suc place) word spelled at = spelled_at words ns place word spelled.1 at
 
 pub one_goal : (grid : ShapeModel) (text : List ℕ) (goal goal' : BoardModel) → IsGoalOf grid text goal → IsGoalOf grid text goal' → goal' ≡ goal

@@ -7,7 +7,7 @@ use Rattle.board.specs.Boards.{BoardModel, IsBoard}
 use Rattle.board.specs.Weights.{WeightsModel, AreWeights, listed_rule, unit_rule, face_rule}
 use Rattle.pattern_index.specs.Groups.{GroupModel, IsGroup}
 use Rattle.batch_lines.specs.TileNumbers.{tile_number}
-use Rattle.batch_lines.specs.Words.{SpellsNumber, SpellEach}
+use Rattle.batch_lines.specs.Words.{SpellsDecimal, SpellEach}
 use Rattle.std.specs.Char.{is_ascii_digit}
 use Rattle.std.specs.Str.Parse.{digits_value}
 
@@ -24,7 +24,7 @@ pub record IsGoalOf (grid : ShapeModel) (text : List ℕ) (b : BoardModel) : Typ
 -- the word spells a number from 1 to 255
 pub record SpellsWeight (word : List ℕ) : Type 0 where
   pub weight : ℕ
-  pub spelled : SpellsNumber word weight
+  pub spelled : SpellsDecimal word weight
   pub low : 1 ≤ weight
   pub high : weight ≤ 255
 

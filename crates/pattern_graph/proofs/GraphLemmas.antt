@@ -31,7 +31,7 @@ use Rattle.pattern_graph.specs.declared.edges.Edges.{Edges}
 use Rattle.pattern_graph.proofs.OrderLemmas.{below_within, in_map, replaced_listing, in_or_out, order_below, one_placement, moved_is, tile_is, placed}
 use Rattle.pattern_graph.proofs.SetLemmas.{same_place, set_is}
 use Rattle.pattern_graph.specs.declared.graph.Graph.{Graph}
-use Rattle.pattern_graph.specs.Frames.{FrameModel, size_in, IsFrame, FitsGroup}
+use Rattle.pattern_graph.specs.Frames.{FrameModel, size_of_frame, IsFrame, FitsGroup}
 use Rattle.pattern_graph.specs.declared.frame.Frame.TheInside.{Inside}
 
 -- ---- nodes by their regions and orders
@@ -491,13 +491,13 @@ frame_copied f f' same starts edges orders h = record {
 }
 
 -- a frame that fits a group has the group's regions
-pub fitting_regions : (f : Inside) (size : FrameModel) (s : GroupModel) → size_in f ≡ size → IsFrame f → FitsGroup size s → IsRegions s.grid (length s.tiles) f.regions
+pub fitting_regions : (f : Inside) (size : FrameModel) (s : GroupModel) → size_of_frame f ≡ size → IsFrame f → FitsGroup size s → IsRegions s.grid (length s.tiles) f.regions
 fitting_regions f size s is h fits =
-    let its_own : FitsGroup (size_in f) s = subst (λ (z : FrameModel). FitsGroup z s) (sym is) fits in
+    let its_own : FitsGroup (size_of_frame f) s = subst (λ (z : FrameModel). FitsGroup z s) (sym is) fits in
     subst (λ (z : FrameModel). IsRegions z.grid z.count f.regions) (λ i. record { grid = its_own.grid i; count = its_own.count i }) h.regions
 
 -- and the orders of its tiles
-pub fitting_orders : (f : Inside) (size : FrameModel) (s : GroupModel) → size_in f ≡ size → IsFrame f → FitsGroup size s → IsOrders (length s.tiles) f.orders
+pub fitting_orders : (f : Inside) (size : FrameModel) (s : GroupModel) → size_of_frame f ≡ size → IsFrame f → FitsGroup size s → IsOrders (length s.tiles) f.orders
 fitting_orders f size s is h fits =
-    let its_own : FitsGroup (size_in f) s = subst (λ (z : FrameModel). FitsGroup z s) (sym is) fits in
+    let its_own : FitsGroup (size_of_frame f) s = subst (λ (z : FrameModel). FitsGroup z s) (sym is) fits in
     subst (λ (n : ℕ). IsOrders n f.orders) its_own.count h.orders

@@ -13,7 +13,7 @@ use Rattle.pattern_index.specs.Laws.{factorial}
 use Rattle.pattern_index.specs.Ranks.{IsListing, spread}
 use Rattle.pattern_index.proofs.CellLemmas.{split_digit}
 use Rattle.pattern_index.proofs.RankLemmas.{Below, Differ, Other, below_in, differ_in, listing_from}
-use Rattle.pattern_graph.specs.Orders.{order_of, positions_at, exchanged, moved_position, moved_order, below, order_after, tile_of}
+use Rattle.pattern_graph.specs.Orders.{order_of, positions_at, exchanged_position, moved_position, moved_order, below, order_after, tile_of}
 use Rattle.pattern_graph.proofs.OrderLemmas.{positions_are, positions_back, order_with, order_below, below_full, below_absent, in_or_out, tile_is}
 use Rattle.pattern_graph.specs.declared.orders.Orders.{Orders}
 use Rattle.pattern_graph.specs.Graphs.{HasPasses, HasPassesTo, AreMoves, IsOrders}
@@ -95,13 +95,13 @@ spread_up digit p le = grind (arith, nat_tests)
 pub spread_same : (digit p : ℕ) → p < digit → p ≡ spread digit p
 spread_same digit p lt = grind (arith, nat_tests)
 
-pub exchanged_up : (position other : ℕ) → other ≡ position → position + 1 ≡ exchanged position other
+pub exchanged_up : (position other : ℕ) → other ≡ position → position + 1 ≡ exchanged_position position other
 exchanged_up position other same = grind (arith, nat_tests)
 
-pub exchanged_down : (position other : ℕ) → other ≡ position + 1 → position ≡ exchanged position other
+pub exchanged_down : (position other : ℕ) → other ≡ position + 1 → position ≡ exchanged_position position other
 exchanged_down position other same = grind (arith, nat_tests)
 
-pub exchanged_same : (position other : ℕ) → other ≢ position → other ≢ position + 1 → other ≡ exchanged position other
+pub exchanged_same : (position other : ℕ) → other ≢ position → other ≢ position + 1 → other ≡ exchanged_position position other
 exchanged_same position other one two = grind (arith, nat_tests)
 
 -- the positions of the first tiles are written, and what is left of the order
@@ -171,17 +171,17 @@ pub tile_found : (n m order position result : ℕ) (zeros written rest : List �
 tile_found n m order position result zeros written rest nine short same is found =
     found ∙ ap (position_or_len (λ other. eqb other position)) (front_is n m order zeros written rest nine short same is)
 
-pub passed_found : (n m order position result : ℕ) (zeros written rest passed rest' : List ℕ) → length zeros ≡ 9 → n ≤ 9 → m ≡ n → written ≡ positions_at (length (take n zeros)) order → passed ≡ map (exchanged position) (take m (written ++ rest)) → result ≡ order_of (take m (passed ++ rest')) → result ≡ order_of (map (exchanged position) (positions_at n order))
+pub passed_found : (n m order position result : ℕ) (zeros written rest passed rest' : List ℕ) → length zeros ≡ 9 → n ≤ 9 → m ≡ n → written ≡ positions_at (length (take n zeros)) order → passed ≡ map (exchanged_position position) (take m (written ++ rest)) → result ≡ order_of (take m (passed ++ rest')) → result ≡ order_of (map (exchanged_position position) (positions_at n order))
 passed_found n m order position result zeros written rest passed rest' nine short same is exchanging found =
-    let made : passed ≡ map (exchanged position) (positions_at n order) = exchanging ∙ ap (map (exchanged position)) (front_is n m order zeros written rest nine short same is) in
-    let size : length passed ≡ m = ap length made ∙ length-map (positions_at n order) (exchanged position) ∙ length-positions_at n order ∙ sym same in
+    let made : passed ≡ map (exchanged_position position) (positions_at n order) = exchanging ∙ ap (map (exchanged_position position)) (front_is n m order zeros written rest nine short same is) in
+    let size : length passed ≡ m = ap length made ∙ length-map (positions_at n order) (exchanged_position position) ∙ length-positions_at n order ∙ sym same in
     found ∙ ap order_of (take_at passed rest' m size ∙ made)
 
 -- the orders after an exchange are orders
-pub passed_low : (n order position : ℕ) → order_of (map (exchanged position) (positions_at n order)) < factorial n
+pub passed_low : (n order position : ℕ) → order_of (map (exchanged_position position) (positions_at n order)) < factorial n
 passed_low n order position =
-    subst (λ k. order_of (map (exchanged position) (positions_at n order)) < factorial k) (length-map (positions_at n order) (exchanged position) ∙ length-positions_at n order)
-    (order_below (map (exchanged position) (positions_at n order)))
+    subst (λ k. order_of (map (exchanged_position position) (positions_at n order)) < factorial k) (length-map (positions_at n order) (exchanged_position position) ∙ length-positions_at n order)
+    (order_below (map (exchanged_position position) (positions_at n order)))
 
 -- one more is put at the end
 pub pushed : (f : ℕ → ℕ) (old items items' : List ℕ) (i x : ℕ) → items ≡ old ++ map f (range_with_len 0 i) → items' ≡ items ++ x ∷ [] → x ≡ f i → items' ≡ old ++ map f (range_with_len 0 (i + 1))
@@ -212,11 +212,11 @@ table_more f w made old new size kept is =
     )
 
 -- what is kept for one order more
-pub kept_more : (count made : ℕ) (o o' : Orders) → HasPassesTo count made o → o'.count ≡ o.count → o'.size ≡ o.size → o'.tiles.items ≡ o.tiles.items ++ map (tile_of o.count made) (range_with_len 0 o.count) → o'.passes.items ≡ o.passes.items ++ map (λ position. order_of (map (exchanged position) (positions_at o.count made))) (range_with_len 0 (o.count - 1)) → HasPassesTo count (made + 1) o'
+pub kept_more : (count made : ℕ) (o o' : Orders) → HasPassesTo count made o → o'.count ≡ o.count → o'.size ≡ o.size → o'.tiles.items ≡ o.tiles.items ++ map (tile_of o.count made) (range_with_len 0 o.count) → o'.passes.items ≡ o.passes.items ++ map (λ position. order_of (map (exchanged_position position) (positions_at o.count made))) (range_with_len 0 (o.count - 1)) → HasPassesTo count (made + 1) o'
 kept_more count made o o' kept number size tiles passes =
     let same = kept.number in
     let tiles_more = table_more (tile_of count) count made o.tiles.items o'.tiles.items kept.tiles_length kept.tiles (tiles ∙ (λ i. o.tiles.items ++ map (tile_of (same i) made) (range_with_len 0 (same i)))) in
-    let passes_more = table_more (λ order position. order_of (map (exchanged position) (positions_at count order))) (count - 1) made o.passes.items o'.passes.items kept.passes_length (λ order position low within. kept.passes order position low (omega (arith, within))) (passes ∙ (λ i. o.passes.items ++ map (λ position. order_of (map (exchanged position) (positions_at (same i) made))) (range_with_len 0 (same i - 1)))) in
+    let passes_more = table_more (λ order position. order_of (map (exchanged_position position) (positions_at count order))) (count - 1) made o.passes.items o'.passes.items kept.passes_length (λ order position low within. kept.passes order position low (omega (arith, within))) (passes ∙ (λ i. o.passes.items ++ map (λ position. order_of (map (exchanged_position position) (positions_at (same i) made))) (range_with_len 0 (same i - 1)))) in
     record {
       number = number ∙ same;
       some = kept.some;
@@ -264,7 +264,7 @@ tile_read count o order position result orders low within read =
     omega arith
 
 -- the order after an exchange, as it is read
-pub pass_read : (count : ℕ) (o : Orders) (order position : ℕ) → HasPasses count o → order < factorial count → suc position < count → (order * (count - 1) + position < length o.passes.items) × ((result : ℕ) → result ≡ get_or o.passes.items (order * (count - 1) + position) result → result ≡ order_of (map (exchanged position) (positions_at count order)))
+pub pass_read : (count : ℕ) (o : Orders) (order position : ℕ) → HasPasses count o → order < factorial count → suc position < count → (order * (count - 1) + position < length o.passes.items) × ((result : ℕ) → result ≡ get_or o.passes.items (order * (count - 1) + position) result → result ≡ order_of (map (exchanged_position position) (positions_at count order)))
 pass_read count o order position orders low within =
     let m = mul-add-lt order (count - 1) position (factorial count) low (omega arith) in
     let turned = mul_comm (count - 1) (factorial count) in
@@ -326,17 +326,17 @@ moved_none : (from p : ℕ) → moved_position from from p ≡ p
 moved_none from p = grind (arith, nat_tests)
 
 -- one place further up
-moved_up : (from at p : ℕ) → from ≤ at → exchanged at (moved_position from at p) ≡ moved_position from (at + 1) p
+moved_up : (from at p : ℕ) → from ≤ at → exchanged_position at (moved_position from at p) ≡ moved_position from (at + 1) p
 moved_up from at p le = grind (arith, nat_tests)
 
 -- one place further down
-moved_down : (from at p : ℕ) → at < from → exchanged at (moved_position from (at + 1) p) ≡ moved_position from at p
+moved_down : (from at p : ℕ) → at < from → exchanged_position at (moved_position from (at + 1) p) ≡ moved_position from at p
 moved_down from at p lt = grind (arith, nat_tests)
 
-exchanged_differ : (at x y : ℕ) → x ≢ y → exchanged at x ≢ exchanged at y
+exchanged_differ : (at x y : ℕ) → x ≢ y → exchanged_position at x ≢ exchanged_position at y
 exchanged_differ at x y ne = grind (arith, nat_tests)
 
-exchanged_low : (n at x : ℕ) → suc at < n → x < n → exchanged at x < n
+exchanged_low : (n at x : ℕ) → suc at < n → x < n → exchanged_position at x < n
 exchanged_low n at x within lt = grind (arith, nat_tests)
 
 map_twice : (f g h : ℕ → ℕ) → ((x : ℕ) → f (g x) ≡ h x) → (xs : List ℕ) → map f (map g xs) ≡ map h xs
@@ -347,20 +347,20 @@ map_none : (f : ℕ → ℕ) → ((x : ℕ) → f x ≡ x) → (xs : List ℕ) �
 map_none f same [] = refl
 map_none f same (x ∷ xs) = λ i. same x i ∷ map_none f same xs i
 
-map_below : (n at : ℕ) (xs : List ℕ) → suc at < n → Below n xs → Below n (map (exchanged at) xs)
+map_below : (n at : ℕ) (xs : List ℕ) → suc at < n → Below n xs → Below n (map (exchanged_position at) xs)
 map_below n at [] within below = tt
 map_below n at (x ∷ xs) within below = (exchanged_low n at x within below.0, map_below n at xs within below.1)
 
-map_other : (at x : ℕ) (xs : List ℕ) → Other x xs → Other (exchanged at x) (map (exchanged at) xs)
+map_other : (at x : ℕ) (xs : List ℕ) → Other x xs → Other (exchanged_position at x) (map (exchanged_position at) xs)
 map_other at x [] other = tt
 map_other at x (y ∷ ys) other = (exchanged_differ at x y other.0, map_other at x ys other.1)
 
-map_differ : (at : ℕ) (xs : List ℕ) → Differ xs → Differ (map (exchanged at) xs)
+map_differ : (at : ℕ) (xs : List ℕ) → Differ xs → Differ (map (exchanged_position at) xs)
 map_differ at [] differ = tt
 map_differ at (x ∷ xs) differ = (map_other at x xs differ.0, map_differ at xs differ.1)
 
-exchanged_listing : (n at : ℕ) (xs : List ℕ) → suc at < n → IsListing n xs → IsListing n (map (exchanged at) xs)
-exchanged_listing n at xs within listing = listing_from n (map (exchanged at) xs) (map_below n at xs within (below_in n xs listing)) (map_differ at xs (differ_in n xs listing))
+exchanged_listing : (n at : ℕ) (xs : List ℕ) → suc at < n → IsListing n xs → IsListing n (map (exchanged_position at) xs)
+exchanged_listing n at xs within listing = listing_from n (map (exchanged_position at) xs) (map_below n at xs within (below_in n xs listing)) (map_differ at xs (differ_in n xs listing))
 
 -- the tile at a position has come to another: the positions are a list of the order
 pub record IsMoved (count order from at current : ℕ) : Type 0 where
@@ -388,14 +388,14 @@ on_way count order from at current moved =
     (λ i. positions_at (sym size i) (moved.is i)) ∙ positions_back ys (subst (λ n. IsListing n ys) (sym size) moved.listing)
 
 -- an exchange on the way
-passed : (count order from at other next current : ℕ) → suc next < count → other < count → ((p : ℕ) → exchanged next (moved_position from at p) ≡ moved_position from other p) → IsMoved count order from at current → IsMoved count order from other (order_of (map (exchanged next) (positions_at count current)))
+passed : (count order from at other next current : ℕ) → suc next < count → other < count → ((p : ℕ) → exchanged_position next (moved_position from at p) ≡ moved_position from other p) → IsMoved count order from at current → IsMoved count order from other (order_of (map (exchanged_position next) (positions_at count current)))
 passed count order from at other next current within place turned moved =
-    let twice : map (exchanged next) (map (moved_position from at) (positions_at count order)) ≡ map (moved_position from other) (positions_at count order) = map_twice (exchanged next) (moved_position from at) (moved_position from other) turned (positions_at count order) in
+    let twice : map (exchanged_position next) (map (moved_position from at) (positions_at count order)) ≡ map (moved_position from other) (positions_at count order) = map_twice (exchanged_position next) (moved_position from at) (moved_position from other) turned (positions_at count order) in
     record {
       place = place;
       low = passed_low count current next;
       listing = subst (λ xs. IsListing count xs) twice (exchanged_listing count next (map (moved_position from at) (positions_at count order)) within moved.listing);
-      is = ap order_of (ap (map (exchanged next)) (on_way count order from at current moved) ∙ twice);
+      is = ap order_of (ap (map (exchanged_position next)) (on_way count order from at current moved) ∙ twice);
     }
 
 pub passed_up : (count order from at current result : ℕ) (o : Orders) → HasPasses count o → from ≤ at → at + 1 < count → IsMoved count order from at current → result ≡ get_or o.passes.items (current * (count - 1) + at) result → IsMoved count order from (at + 1) result

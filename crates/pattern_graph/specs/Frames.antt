@@ -12,8 +12,8 @@ pub record FrameModel : Type 0 where
   pub count : ℕ
 
 -- the size of groups that a frame is made for
-abbrev pub size_in : Inside → FrameModel
-size_in f = record { grid = f.regions.shape; count = f.regions.count }
+abbrev pub size_of_frame : Inside → FrameModel
+size_of_frame f = record { grid = f.regions.shape; count = f.regions.count }
 
 -- its regions, the edges between them, and the orders of tiles
 pub record IsFrame (f : Inside) : Type 0 where

@@ -7,7 +7,7 @@ use Rattle.pattern_index.specs.Laws.{factorial}
 use Rattle.pattern_index.specs.Views.{ViewModel, IsView, Abstraction, ViewMoves, ViewLeads}
 use Rattle.pattern_index.specs.Groups.{GroupModel, abstraction_of}
 use Rattle.pattern_index.specs.declared.group.TheConstants.{MAX_SIZE}
-use Rattle.pattern_graph.specs.Orders.{order_of, positions_at, tile_of, exchanged, moved_order}
+use Rattle.pattern_graph.specs.Orders.{order_of, positions_at, tile_of, exchanged_position, moved_order}
 use Rattle.pattern_graph.specs.Regions.{IsRegions, region_in, HasEdge}
 use Rattle.pattern_graph.specs.declared.orders.Orders.{Orders}
 use Rattle.pattern_graph.specs.declared.orders.TheConstants.{MOST_MOVED}
@@ -25,7 +25,7 @@ pub record HasPassesTo (count made : ℕ) (o : Orders) : Type 0 where
   pub tiles_length : length o.tiles.items ≡ made * count
   pub tiles : (order position : ℕ) → order < made → position < count → slice_index o.tiles.items (order * count + position) ≡ tile_of count order position
   pub passes_length : length o.passes.items ≡ made * (count - 1)
-  pub passes : (order position : ℕ) → order < made → suc position < count → slice_index o.passes.items (order * (count - 1) + position) ≡ order_of (map (exchanged position) (positions_at count order))
+  pub passes : (order position : ℕ) → order < made → suc position < count → slice_index o.passes.items (order * (count - 1) + position) ≡ order_of (map (exchanged_position position) (positions_at count order))
 
 -- the same for all orders
 abbrev pub HasPasses : ℕ → Orders → Type 0

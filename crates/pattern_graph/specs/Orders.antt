@@ -28,8 +28,8 @@ abbrev pub tile_of : ℕ → ℕ → ℕ → ℕ
 tile_of count order position = position_or_len (λ other. other == position) (positions_at count order)
 
 -- where a tile stands after two at neighbouring positions are exchanged
-abbrev pub exchanged : ℕ → ℕ → ℕ
-exchanged position other = if other == position then position + 1 else (if other == position + 1 then position else other)
+abbrev pub exchanged_position : ℕ → ℕ → ℕ
+exchanged_position position other = if other == position then position + 1 else (if other == position + 1 then position else other)
 
 -- where a tile stands after the tile at a position has left it
 abbrev pub closed_up : ℕ → ℕ → ℕ

@@ -21,11 +21,11 @@ pub struct Frame {
 }
 
 impl Model for Frame {
-    ghost use Rattle.pattern_graph.specs.Frames.{FrameModel, IsFrame, size_in};
+    ghost use Rattle.pattern_graph.specs.Frames.{FrameModel, IsFrame, size_of_frame};
 
     ghost Value = { FrameModel };
 
-    ghost view = { size_in };
+    ghost view = { size_of_frame };
 
     ghost invariant = { IsFrame };
 }

@@ -5,7 +5,8 @@ ghost use Rattle.std.specs.Prelude.{OnOk};
 ghost use Rattle.std.specs.List.{position_or_len, range_with_len};
 ghost use Rattle.pattern_index.specs.Laws.{factorial};
 ghost use Rattle.pattern_index.specs.Ranks.{spread};
-ghost use Rattle.pattern_graph.specs.Orders.{below, order_of, positions_at, tile_of, exchanged};
+ghost use Rattle.pattern_graph.specs.Orders.{below, order_of, positions_at, tile_of};
+ghost use Rattle.pattern_graph.specs.Orders.{exchanged_position};
 ghost use Rattle.pattern_graph.specs.Orders.{moved_order};
 ghost use Rattle.pattern_graph.specs.Orders.{IsOrderOf, IsTileCount, IsChange, IsChanged};
 ghost use Rattle.pattern_graph.specs.Graphs.{AreMoves, HasPasses, HasPassesTo, IsOrders};
@@ -264,7 +265,7 @@ fn tile_at(positions: &[u8], position: u8) -> usize
 // Exchanges the tiles at a position and at the next one.
 fn exchange(positions: &mut [u8], position: u8)
     requires { position < 255 }
-    ensures { positions.new ≡ map (exchanged position) positions.old }
+    ensures { positions.new ≡ map (exchanged_position position) positions.old }
 {
     'tiles: for other in positions.iter_mut() {
         if *other == position {

@@ -18,7 +18,7 @@ use Rattle.world_model.specs.declared.steps.Refusal.{Refusal}
 use Rattle.world_model.specs.declared.steps.Step.{Step}
 use Rattle.world_model.specs.Worlds.{WorldState}
 use Rattle.world_model.specs.Steps.{IsRun}
-use Rattle.replay_runs.specs.Replies.{Reply, replies_text, status_of, TextSays, RepliesToText, RepliesToKind, RepliesTo, RepliesToEach, Changes, steps_of, reply_text, reply_to, is_fine, are_fine}
+use Rattle.replay_runs.specs.Replies.{Reply, replies_text, replay_status_of, TextSays, RepliesToText, RepliesToKind, RepliesTo, RepliesToEach, Changes, steps_of, reply_text, reply_to, is_fine, are_fine}
 use Rattle.replay_runs.specs.Replies.Reply.{passed_over, no_step, taken}
 use Rattle.batch_runs.specs.declared.faults.LinesFault.TheVariants.{Read, Write, Memory}
 use Rattle.replay_runs.specs.Stepping.{IsReplied, IsReportOf, RepliesToLines, Finishes}
@@ -176,10 +176,10 @@ step_said kind bytes (Some step) refusal is says = subst (λ (k : LineKind). Rep
 -- ---- the report of the outcome
 
 -- the report is written behind the replies
-pub finishes : (source : Change SourceState) (lines : List (List ℕ)) (w v : WorldState) (x y z : SinkState) (id : List ℕ) (fine : Bool) (outcome : Outcome) (status : ℕ) → RepliesToLines source lines (from_to w v) (from_to x y) (Ok fine) → IsReportOf v outcome → WritesAll (from_to y z) (report_text (outcome_data id (without_rows outcome))) → status ≡ status_of fine (without_rows outcome)
+pub finishes : (source : Change SourceState) (lines : List (List ℕ)) (w v : WorldState) (x y z : SinkState) (id : List ℕ) (fine : Bool) (outcome : Outcome) (status : ℕ) → RepliesToLines source lines (from_to w v) (from_to x y) (Ok fine) → IsReportOf v outcome → WritesAll (from_to y z) (report_text (outcome_data id (without_rows outcome))) → status ≡ replay_status_of fine (without_rows outcome)
     → Finishes source lines w id (from_to x z) (Ok status)
 finishes source lines w v x y z id fine outcome status (later, replies, all, replied, put, said, readable, kept) given written is =
-    (later, replies, v, outcome, all, replied, given, Appends-trans x.contents y.contents z.contents (replies_text replies) (report_text (outcome_data id (without_rows outcome))) put written.0, is ∙ ap (λ (b : Bool). status_of b (without_rows outcome)) said, readable, written.1.1 ∙ sym written.1.0 ∙ kept)
+    (later, replies, v, outcome, all, replied, given, Appends-trans x.contents y.contents z.contents (replies_text replies) (report_text (outcome_data id (without_rows outcome))) put written.0, is ∙ ap (λ (b : Bool). replay_status_of b (without_rows outcome)) said, readable, written.1.1 ∙ sym written.1.0 ∙ kept)
 
 -- a beginning of it is
 pub finishes_part : (source : Change SourceState) (lines : List (List ℕ)) (w v : WorldState) (x y z : SinkState) (id : List ℕ) (fine : Bool) (outcome : Outcome) → RepliesToLines source lines (from_to w v) (from_to x y) (Ok fine) → IsReportOf v outcome → FailsWriting (from_to y z) (report_text (outcome_data id (without_rows outcome)))

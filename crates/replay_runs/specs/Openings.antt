@@ -2,7 +2,7 @@
 use Rattle.std.specs.Prelude.{ℕ}
 use Rattle.board.specs.Boards.{BoardModel}
 use Rattle.memory.specs.declared.OutOfMemory.{OutOfMemory}
-use Rattle.batch_runs.specs.Setups.{SetupModel, owner_by, task_of}
+use Rattle.batch_runs.specs.Setups.{SetupModel, owner_by, task_of_setup}
 use Rattle.replay_runs.specs.Replays.{Jobs}
 
 -- The jobs of a setup's boards, where boards have these owners among each number of workers. Memory is refused where a growth was.
@@ -10,7 +10,7 @@ abbrev pub jobs_by : (ℕ → BoardModel → ℕ) → SetupModel → Jobs
 jobs_by owner_among setup = record {
   grid = setup.goal.grid;
   job = λ start. record {
-    task = task_of setup start;
+    task = task_of_setup setup start;
     limit = setup.limit;
     count = setup.workers;
     owner = owner_among setup.workers;

@@ -6,7 +6,7 @@ use Rattle.board.specs.Boards.{BoardModel}
 use Rattle.board.specs.Rows.{IsLowerBound}
 use Rattle.byte_streams.specs.Streams.{SourceState, SinkState, Change, from_to}
 use Rattle.byte_streams.specs.Sink.{Puts, PutsBeginning, WritesAll, FailsWriting}
-use Rattle.batch_lines.specs.Lines.{without_return, kind_of}
+use Rattle.batch_lines.specs.Lines.{without_return, line_kind_of}
 use Rattle.batch_lines.specs.declared.lines.LineKind.TheVariants.{Within}
 use Rattle.outcomes.specs.Outcomes.{Answers}
 use Rattle.outcomes.specs.Endings.{without_rows}
@@ -19,7 +19,7 @@ use Rattle.batch_runs.specs.Meanings.{Names, HasFault}
 use Rattle.batch_runs.specs.declared.faults.LinesFault.{LinesFault}
 use Rattle.batch_runs.specs.declared.faults.LinesFault.TheVariants.{Read, Write, Memory}
 use Rattle.batch_runs.specs.FirstLines.{IsPassedOver, FindsFirst}
-use Rattle.replay_runs.specs.Replies.{Reply, replies_text, are_fine, status_of}
+use Rattle.replay_runs.specs.Replies.{Reply, replies_text, are_fine, replay_status_of}
 use Rattle.replay_runs.specs.Stepping.{IsReplied, IsReportOf, output_of}
 
 -- the shape of the boards, the job that a board starts, and when memory is wanting before its first step
@@ -41,7 +41,7 @@ IsLineRefusedBy jobs line code =
 
 -- the line is to be read, and these are its bytes
 abbrev pub IsReadLine : List ℕ → List ℕ → Type 0
-IsReadLine line bytes = (kind_of line ≡ Within) × (bytes ≡ without_return line)
+IsReadLine line bytes = (line_kind_of line ≡ Within) × (bytes ≡ without_return line)
 
 -- the line names a board by this id, and the board's job opens with this world
 pub record OpensRun (jobs : Jobs) (line id : List ℕ) (w : WorldState) : Type 0 where
@@ -94,7 +94,7 @@ WritesRefusal jobs source sink status = (output : List ℕ) × RefusesFirst jobs
 abbrev pub WritesPlay : Jobs → Change SourceState → Change SinkState → ℕ → Type 0
 WritesPlay jobs source sink status =
     (lines : List (List ℕ)) × (id : List ℕ) × (replies : List Reply) × (outcome : Outcome) × AreAll source.before.left lines × IsEnd jobs lines id replies outcome
-    × Puts sink (output_of replies id outcome) × (status ≡ status_of (are_fine replies) (without_rows outcome))
+    × Puts sink (output_of replies id outcome) × (status ≡ replay_status_of (are_fine replies) (without_rows outcome))
 
 -- a line was lost, and what is due for the lines before it was written
 abbrev pub LosesReplay : Jobs → Change SourceState → Change SinkState → Type 0

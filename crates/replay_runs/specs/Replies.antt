@@ -3,7 +3,7 @@ use Rattle.std.specs.Prelude.{ℕ, ◌≡◌, ◌&&◌, List, [], ◌∷◌, ◌
 use Rattle.byte_streams.specs.Streams.{SinkState, Change}
 use Rattle.byte_streams.specs.Sink.{WritesAll, FailsWriting}
 use Rattle.byte_streams.specs.declared.sink.WriteFailed.{WriteFailed}
-use Rattle.batch_lines.specs.Lines.{without_return, kind_of}
+use Rattle.batch_lines.specs.Lines.{without_return, line_kind_of}
 use Rattle.batch_lines.specs.Words.{words_of}
 use Rattle.batch_lines.specs.declared.lines.LineKind.{LineKind}
 use Rattle.batch_lines.specs.declared.lines.LineKind.TheVariants.{PassedOver, Within, TooLong}
@@ -41,7 +41,7 @@ RepliesToKind Within bytes reply = RepliesToText bytes reply
 
 -- the reply to a line
 abbrev pub RepliesTo : List ℕ → Reply → Type 0
-RepliesTo line reply = RepliesToKind (kind_of line) (without_return line) reply
+RepliesTo line reply = RepliesToKind (line_kind_of line) (without_return line) reply
 
 -- a reply to each of the lines, in their order
 abbrev pub RepliesToEach : List (List ℕ) → List Reply → Type 0
@@ -84,10 +84,10 @@ are_fine [] = true
 are_fine (reply ∷ replies) = is_fine reply && are_fine replies
 
 -- the status: 1 for a bound, and where some line said no step
-abbrev pub status_of : Bool → Ending → ℕ
-status_of fine (Optimal cost plan) = if fine then 0 else 1
-status_of fine (Unsolvable why) = if fine then 0 else 1
-status_of fine (Bounded bound best cause) = 1
+abbrev pub replay_status_of : Bool → Ending → ℕ
+replay_status_of fine (Optimal cost plan) = if fine then 0 else 1
+replay_status_of fine (Unsolvable why) = if fine then 0 else 1
+replay_status_of fine (Bounded bound best cause) = 1
 
 -- ---- one line
 

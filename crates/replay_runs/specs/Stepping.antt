@@ -12,7 +12,7 @@ use Rattle.world_model.specs.Outcomes.{IsGiven}
 use Rattle.batch_runs.specs.Batches.{AreAll, AreFirst, LosesLine, IsReadable, HasFailed, KeepsFailure}
 use Rattle.batch_runs.specs.declared.faults.LinesFault.{LinesFault}
 use Rattle.batch_runs.specs.declared.faults.LinesFault.TheVariants.{Read, Write, Memory}
-use Rattle.replay_runs.specs.Replies.{Reply, RepliesToEach, steps_of, replies_text, are_fine, status_of}
+use Rattle.replay_runs.specs.Replies.{Reply, RepliesToEach, steps_of, replies_text, are_fine, replay_status_of}
 
 -- the lines are replied to, and the steps that they say lead from one world to the other
 pub record IsReplied (world : Change WorldState) (later : List (List ℕ)) (replies : List Reply) : Type 0 where
@@ -44,7 +44,7 @@ abbrev pub Finishes : Change SourceState → List (List ℕ) → WorldState → 
 Finishes source lines w id sink (Ok status) =
     (later : List (List ℕ)) × (replies : List Reply) × (end : WorldState) × (outcome : Outcome) × AreAll source.before.left (lines ++ later)
     × IsReplied (from_to w end) later replies × IsReportOf end outcome × Puts sink (output_of replies id outcome)
-    × (status ≡ status_of (are_fine replies) (without_rows outcome)) × IsReadable source × KeepsFailure sink
+    × (status ≡ replay_status_of (are_fine replies) (without_rows outcome)) × IsReadable source × KeepsFailure sink
 Finishes source lines w id sink (Err Read) =
     (later : List (List ℕ)) × (replies : List Reply) × (end : WorldState) × LosesLine source (lines ++ later) × IsReplied (from_to w end) later replies
     × Puts sink (replies_text replies) × KeepsFailure sink

@@ -11,7 +11,7 @@ ghost use Rattle.world_model.specs.Outcomes.{IsGiven};
 ghost use Rattle.batch_runs.specs.Batches.{HasFailed};
 ghost use Rattle.batch_runs.specs.FirstLines.{HasRead};
 ghost use Rattle.replay_runs.specs.Replies.{RepliesToKind, Changes, WritesReply, WritesLine};
-ghost use Rattle.replay_runs.specs.Replies.{reply_to, line_of, status_of};
+ghost use Rattle.replay_runs.specs.Replies.{reply_to, line_of, replay_status_of};
 ghost use Rattle.replay_runs.specs.Stepping.{RepliesToLines, Finishes};
 
 use crate::sending::{send, send_word};
@@ -81,7 +81,7 @@ pub(crate) fn replay_steps<S: Source, K: Sink, R: Run + Drop>(
 
 // 0 for a plan or none, where each line said a step; else 1.
 fn status_of(said: bool, ending: &Ending) -> u8
-    ensures { result ≡ status_of said ending.now }
+    ensures { result ≡ replay_status_of said ending.now }
 {
     match ending {
         Ending::Bounded { .. } => 1,

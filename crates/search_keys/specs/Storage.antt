@@ -15,8 +15,8 @@ abbrev pub board_in : Inside → BoardModel
 board_in inside = turned (record { grid = inside.shape; tiles = digits_in (key_base inside.shape) (cell_count inside.shape) inside.key })
 
 -- the memory of a board
-abbrev pub storage_of : BoardModel → Inside
-storage_of b = record { shape = b.grid; key = search_key b }
+abbrev pub key_storage_of : BoardModel → Inside
+key_storage_of b = record { shape = b.grid; key = search_key b }
 
 -- that is a board, and the key is its search key
 pub record IsKeyed (inside : Inside) : Type 0 where
@@ -24,5 +24,5 @@ pub record IsKeyed (inside : Inside) : Type 0 where
   pub key : search_key (board_in inside) ≡ inside.key
 
 -- nothing is lost
-pub storage_of-board_in : (inside : Inside) → IsKeyed inside → storage_of (board_in inside) ≡ inside
+pub storage_of-board_in : (inside : Inside) → IsKeyed inside → key_storage_of (board_in inside) ≡ inside
 storage_of-board_in inside keyed = λ i. record { shape = inside.shape; key = keyed.key i }

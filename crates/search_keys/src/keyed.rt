@@ -34,14 +34,14 @@ impl Model for KeyedBoard {
 
     ghost Value = { BoardModel };
 
-    ghost use Rattle.search_keys.specs.Storage.{board_in, storage_of, IsKeyed};
+    ghost use Rattle.search_keys.specs.Storage.{board_in, key_storage_of, IsKeyed};
     ghost use Rattle.search_keys.specs.Storage.{storage_of-board_in};
 
     ghost view = { board_in };
 
     ghost invariant = { IsKeyed };
 
-    ghost inverse = { storage_of };
+    ghost inverse = { key_storage_of };
 
     ghost inverse_ok = { storage_of-board_in };
 }

@@ -1,7 +1,7 @@
 -- What contracts see of the two lists of a search: the known boards, and what waits to be expanded, which are places of known boards.
 use Rattle.std.specs.Prelude.{ℕ, ◌≡◌, ◌<◌, ◌≤◌, List, length, Contains, IsPermutation, refl}
 use Rattle.std.specs.Coded.{Coded, code_by, coded×, coded_ℕ, coded_list}
-use Rattle.closed_table.specs.Tables.{ClosedModel, empty_table, table_code}
+use Rattle.closed_table.specs.Tables.{ClosedModel, empty_table, closed_code}
 use Rattle.open_buckets.specs.OpenLists.{OpenModel, empty_list, entries_at, places_at}
 
 -- The closed list has all known boards, the open ones too; what waits is the place of a known board, with the cost that it had when
@@ -37,4 +37,4 @@ pub record HasEntriesOf (old new : OpenModel ℕ) : Type 0 where
 
 -- lists as numbers, by which a proof tells them apart
 abbrev pub lists_code : Coded SearchListsModel
-lists_code = code_by (ClosedModel × (List (List (ℕ × ℕ)) × List ℕ)) (coded× table_code (coded× (coded_list (coded_list (coded× coded_ℕ coded_ℕ))) (coded_list coded_ℕ))) (λ s. (s.closed, (s.waiting.entries, s.waiting.places))) (λ p. record { closed = p.0; waiting = record { entries = p.1.0; places = p.1.1 } }) (λ _. refl)
+lists_code = code_by (ClosedModel × (List (List (ℕ × ℕ)) × List ℕ)) (coded× closed_code (coded× (coded_list (coded_list (coded× coded_ℕ coded_ℕ))) (coded_list coded_ℕ))) (λ s. (s.closed, (s.waiting.entries, s.waiting.places))) (λ p. record { closed = p.0; waiting = record { entries = p.1.0; places = p.1.1 } }) (λ _. refl)

@@ -20,7 +20,7 @@ use Rattle.world_ends.specs.declared.figures.Figures.{Figures}
 use Rattle.world_ends.specs.declared.reading.EndingWithFigures.{EndingWithFigures}
 use Rattle.owners.specs.Owners.{AreWorkers, owner_by_hash-lt, owner_by_blank-lt}
 use Rattle.batch_runs.specs.declared.setup.SpreadKind.TheVariants.{Zobrist, Blank}
-use Rattle.batch_runs.specs.Setups.{SetupModel, owner_by, task_of}
+use Rattle.batch_runs.specs.Setups.{SetupModel, owner_by, task_of_setup}
 use Rattle.batch_runs.specs.Batches.{IsTruthful}
 use Rattle.thread_joins.specs.Threads.{IsJoined}
 use Rattle.thread_runs.specs.Solved.{IsFoundByWorkers, IsLeftToOne}
@@ -97,7 +97,7 @@ module _ {X : Type 0} (gives : WorldState → X → Type 0) (setup : SetupModel)
     found_so end (Err refused) found = found
 
 -- what one of the setup's workers finds within a limit is what a search may answer
-pub searched_by_one : {X : Type 0} (gives : WorldState → X → Type 0) (answers : Task → X → Type 0) (end : X → Ending) (parity : X) (setup : SetupModel) (start : BoardModel) (limit : ℕ) {S : Type 0} (owner_of : S → ℕ → BoardModel → ℕ) → AreWorkers owner_of → (owners : S) (answer : X) → limit ≤ setup.limit → (limit ≡ setup.limit) ⊎ ((2 ≤ setup.workers) × IsNoBound (end answer)) → (◌≡◌ {A = Result X OutOfMemory} (Ok answer) (Ok parity)) ↔ (¬ SameClass start setup.goal) → (SameClass start setup.goal → IsFoundAlone gives owner_of (problem_within limit setup start) owners answer) → answers (task_of setup start) answer → EndsWholeRun (end answer) → IsSearched gives answers end parity setup start (Ok answer)
+pub searched_by_one : {X : Type 0} (gives : WorldState → X → Type 0) (answers : Task → X → Type 0) (end : X → Ending) (parity : X) (setup : SetupModel) (start : BoardModel) (limit : ℕ) {S : Type 0} (owner_of : S → ℕ → BoardModel → ℕ) → AreWorkers owner_of → (owners : S) (answer : X) → limit ≤ setup.limit → (limit ≡ setup.limit) ⊎ ((2 ≤ setup.workers) × IsNoBound (end answer)) → (◌≡◌ {A = Result X OutOfMemory} (Ok answer) (Ok parity)) ↔ (¬ SameClass start setup.goal) → (SameClass start setup.goal → IsFoundAlone gives owner_of (problem_within limit setup start) owners answer) → answers (task_of_setup setup start) answer → EndsWholeRun (end answer) → IsSearched gives answers end parity setup start (Ok answer)
 searched_by_one gives answers end parity setup start limit owner_of are owners answer within whole at_parity run answered kept =
     record {
       at_parity = at_parity;
@@ -125,7 +125,7 @@ module _ {X : Type 0} (answers : Task → X → Type 0) (is_of_run : X → Type 
   Gives (Ok answer) = AnswersBoard answers is_of_run parity setup start (Some answer)
   Gives (Err refused) = AnswersBoard answers is_of_run parity setup start None
 
-  gives_so : (result : Result X OutOfMemory) → (¬ SameClass start setup.goal → result ≡ Ok parity) → (SameClass start setup.goal → IfOk result is_of_run) → IfOk result (answers (task_of setup start)) → Gives result
+  gives_so : (result : Result X OutOfMemory) → (¬ SameClass start setup.goal → result ≡ Ok parity) → (SameClass start setup.goal → IfOk result is_of_run) → IfOk result (answers (task_of_setup setup start)) → Gives result
   gives_so (Err refused) by_parity run answered = of_class (one_class start setup.goal)
     where
       of_class : SameClass start setup.goal ⊎ (¬ SameClass start setup.goal) → SameClass start setup.goal
@@ -157,14 +157,14 @@ module _ (setup : SetupModel) (start : BoardModel) where
   found_ending found (inr (limit, it)) = inr (limit, record { run = alone_ending limit found it.run; within = it.within; whole = it.whole })
 
   -- what the setup's workers find of a board, with figures, is what its rules allow
-  pub may_solve : (figures : Figures) (found : Result EndingWithFigures OutOfMemory) → (¬ SameClass start setup.goal → found ≡ Ok (record { ending = Unsolvable Parity; figures = figures })) → (SameClass start setup.goal → IfOk found (IsFound EndsWithFigures (λ it. it.ending) setup start)) → IfOk found (λ it. EndAnswers (task_of setup start) it.ending) → IfOk found (λ it. EndsWholeRun it.ending) → Gives EndAnswers (IsOfRun setup start) (Unsolvable Parity) setup start (ending_of found)
+  pub may_solve : (figures : Figures) (found : Result EndingWithFigures OutOfMemory) → (¬ SameClass start setup.goal → found ≡ Ok (record { ending = Unsolvable Parity; figures = figures })) → (SameClass start setup.goal → IfOk found (IsFound EndsWithFigures (λ it. it.ending) setup start)) → IfOk found (λ it. EndAnswers (task_of_setup setup start) it.ending) → IfOk found (λ it. EndsWholeRun it.ending) → Gives EndAnswers (IsOfRun setup start) (Unsolvable Parity) setup start (ending_of found)
   may_solve figures (Ok found) by_parity run answered kept =
       gives_so EndAnswers (IsOfRun setup start) (Unsolvable Parity) setup start (Ok found.ending) (λ other. ap ending_of (by_parity other)) (λ together. (found_ending found (run together), kept)) answered
   may_solve figures (Err refused) by_parity run answered kept =
       gives_so EndAnswers (IsOfRun setup start) (Unsolvable Parity) setup start (Err refused) (λ other. ap ending_of (by_parity other)) (λ together. run together) answered
 
   -- so is what one of them ends, within a limit
-  pub may_end : (limit : ℕ) {S : Type 0} (owner_of : S → ℕ → BoardModel → ℕ) → AreWorkers owner_of → (owners : S) (figures : Figures) (found : EndingWithFigures) → limit ≤ setup.limit → (limit ≡ setup.limit) ⊎ ((2 ≤ setup.workers) × IsNoBound found.ending) → (¬ SameClass start setup.goal → ◌≡◌ {A = Result EndingWithFigures OutOfMemory} (Ok found) (Ok (record { ending = Unsolvable Parity; figures = figures }))) → (SameClass start setup.goal → IsFoundAlone EndsWithFigures owner_of (problem_within limit setup start) owners found) → EndAnswers (task_of setup start) found.ending → EndsWholeRun found.ending → MayAnswer setup start (Some found.ending)
+  pub may_end : (limit : ℕ) {S : Type 0} (owner_of : S → ℕ → BoardModel → ℕ) → AreWorkers owner_of → (owners : S) (figures : Figures) (found : EndingWithFigures) → limit ≤ setup.limit → (limit ≡ setup.limit) ⊎ ((2 ≤ setup.workers) × IsNoBound found.ending) → (¬ SameClass start setup.goal → ◌≡◌ {A = Result EndingWithFigures OutOfMemory} (Ok found) (Ok (record { ending = Unsolvable Parity; figures = figures }))) → (SameClass start setup.goal → IsFoundAlone EndsWithFigures owner_of (problem_within limit setup start) owners found) → EndAnswers (task_of_setup setup start) found.ending → EndsWholeRun found.ending → MayAnswer setup start (Some found.ending)
   may_end limit owner_of are owners figures found within whole by_parity run answered kept =
       gives_so EndAnswers (IsOfRun setup start) (Unsolvable Parity) setup start (Ok found.ending) (λ other. ap ending_of (by_parity other)) (λ together. (inr (by_one (run together)), kept)) answered
     where
@@ -208,7 +208,7 @@ module _ (setup : SetupModel) (start : BoardModel) where
       of_class (inr other) = let parity : found.ending ≡ Unsolvable Parity = ap (λ (it : EndingWithFigures). it.ending) (ap (value_or found) (by_parity other)) in absurd (cc)
 
   -- what they find with rows is what its rules allow too
-  pub may_prove : (result : Result Outcome OutOfMemory) → (result ≡ Ok (outcome.Unsolvable Parity)) ↔ (¬ SameClass start setup.goal) → (SameClass start setup.goal → IfOk result (IsFound IsGiven without_rows setup start)) → IfOk result (Answers (task_of setup start)) → IfOk result HasWholeRun → MayProve (certifying_rules_of setup) start result
+  pub may_prove : (result : Result Outcome OutOfMemory) → (result ≡ Ok (outcome.Unsolvable Parity)) ↔ (¬ SameClass start setup.goal) → (SameClass start setup.goal → IfOk result (IsFound IsGiven without_rows setup start)) → IfOk result (Answers (task_of_setup setup start)) → IfOk result HasWholeRun → MayProve (certifying_rules_of setup) start result
   may_prove result by_parity run answered kept =
       as_rules result (gives_so Answers (IsOfProvedRun setup start) (outcome.Unsolvable Parity) setup start result by_parity.1 (λ together. both (IsFound IsGiven without_rows setup start) HasWholeRun result (run together) kept) answered)
     where
@@ -229,7 +229,7 @@ parity_certified setup b apart = ((λ together. apart together), by_class)
 
 -- with its rows an outcome is an ending too; a bound without rows stands alone, since it answers its task
 pub certified_answered : CertifiedEndsAreAnswered
-certified_answered setup b o (answers, inr (other, is)) = inl (ends_answered (task_of setup b) o answers, inr (other, ap without_rows is))
+certified_answered setup b o (answers, inr (other, is)) = inl (ends_answered (task_of_setup setup b) o answers, inr (other, ap without_rows is))
 certified_answered setup b o (answers, inl (together, (solved, kept))) = by_rows o answers solved kept
   where
     alone : (o : Outcome) (limit : ℕ) → HasItsRows o → IsFoundAlone IsGiven owner_by (problem_within limit setup b) setup.spread o → IsFoundAlone EndsIn owner_by (problem_within limit setup b) setup.spread (without_rows o)
@@ -239,10 +239,10 @@ certified_answered setup b o (answers, inl (together, (solved, kept))) = by_rows
     found o has (inl solved) = inl (solved_ends owner_by (problem_of setup b) setup.spread setup.workers o solved has)
     found o has (inr (limit, it)) = inr (limit, record { run = alone o limit has it.run; within = it.within; whole = it.whole })
 
-    ends : (o : Outcome) → HasItsRows o → Answers (task_of setup b) o → IsFound IsGiven without_rows setup b o → HasWholeRun o → MayAnswer setup b (Some (without_rows o))
-    ends o has answers solved kept = (ends_answered (task_of setup b) o answers, inl (together, (found o has solved, kept)))
+    ends : (o : Outcome) → HasItsRows o → Answers (task_of_setup setup b) o → IsFound IsGiven without_rows setup b o → HasWholeRun o → MayAnswer setup b (Some (without_rows o))
+    ends o has answers solved kept = (ends_answered (task_of_setup setup b) o answers, inl (together, (found o has solved, kept)))
 
-    by_rows : (o : Outcome) → Answers (task_of setup b) o → IsFound IsGiven without_rows setup b o → HasWholeRun o → MayAnswer setup b (Some (without_rows o)) ⊎ IsAloneBound o
+    by_rows : (o : Outcome) → Answers (task_of_setup setup b) o → IsFound IsGiven without_rows setup b o → HasWholeRun o → MayAnswer setup b (Some (without_rows o)) ⊎ IsAloneBound o
     by_rows (outcome.Optimal cost plan rows) answers solved kept = inl (ends (outcome.Optimal cost plan rows) tt answers solved kept)
     by_rows (outcome.Unsolvable why) answers solved kept = inl (ends (outcome.Unsolvable why) tt answers solved kept)
     by_rows (outcome.Bounded bound best cause (Some rows)) answers solved kept = inl (ends (outcome.Bounded bound best cause (Some rows)) refl answers solved kept)

@@ -23,7 +23,7 @@ use Rattle.world_model.specs.Credit.{expansion_count}
 use Rattle.world_model.specs.Openings.{Job, opening}
 use Rattle.world_model.specs.Steps.{IsRun}
 use Rattle.world_model.specs.Worlds.{WorldState}
-use Rattle.batch_runs.specs.Setups.{SetupModel, task_of}
+use Rattle.batch_runs.specs.Setups.{SetupModel, task_of_setup}
 use Rattle.batch_runs.specs.declared.stats.Solved.{Solved}
 use Rattle.setup_runs.specs.Solving.{MayAnswer, MayCertify, HasStats}
 
@@ -44,7 +44,7 @@ BoundsAreNeverCut =
 
 -- what one worker does for a board of the setup, where boards are owned so
 abbrev pub job_by : (BoardModel → ℕ) → SetupModel → BoardModel → Job
-job_by owner setup b = record { task = task_of setup b; limit = setup.limit; count = 1; owner = owner }
+job_by owner setup b = record { task = task_of_setup setup b; limit = setup.limit; count = 1; owner = owner }
 
 -- where one is for the limit and there is one worker, steps from the opening world of the board's job have expanded just as many boards as the setup says
 abbrev pub LimitsAreTheSetups : Type 0
@@ -89,7 +89,7 @@ StatsAreOfWorlds =
     × EndsIn w solved.ending × (solved.stats.expanded ≡ min (expansion_count w) (2 ^ 64 - 1))
     × (solved.stats.known ≡ min (sum_by (λ worker. map.len worker.known) w.workers) (2 ^ 64 - 1)))
     × ((¬ SameClass start setup.goal) → (solved.stats.expanded ≡ 0) × (solved.stats.known ≡ 0))
-    × (solved.stats.start_sum ≡ (task_of setup start).sum start)
+    × (solved.stats.start_sum ≡ (task_of_setup setup start).sum start)
 
 -- Where one worker solves a board of the goal's class, steps from the opening world of the board's job lead to the world that the stats count.
 abbrev pub StatsAreOfTheSetups : Type 0

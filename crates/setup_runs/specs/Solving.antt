@@ -21,7 +21,7 @@ use Rattle.hda_run.specs.WholeRuns.{EndsWholeRun, HasWholeRun}
 use Rattle.thread_runs.specs.Solved.{IsFoundByWorkers}
 use Rattle.lower_bound.specs.Bounds.{sum_of}
 use Rattle.lower_bound.specs.Tables.{parts_of}
-use Rattle.batch_runs.specs.Setups.{SetupModel, owner_by, task_of}
+use Rattle.batch_runs.specs.Setups.{SetupModel, owner_by, task_of_setup}
 use Rattle.batch_runs.specs.Batches.{Rules}
 use Rattle.batch_lines.specs.Words.{IsEntry}
 use Rattle.batch_runs.specs.declared.stats.Stats.{Stats}
@@ -60,7 +60,7 @@ IsFound gives end setup start answer = IsFoundByWorkers gives owner_by (problem_
 pub record IsSearched {X : Type 0} (gives : WorldState → X → Type 0) (answers : Task → X → Type 0) (end : X → Ending) (parity : X) (setup : SetupModel) (start : BoardModel) (found : Result X OutOfMemory) : Type 0 where
   pub at_parity : (found ≡ Ok parity) ↔ (¬ SameClass start setup.goal)
   pub run : SameClass start setup.goal → IfOk found (IsFound gives end setup start)
-  pub answered : IfOk found (answers (task_of setup start))
+  pub answered : IfOk found (answers (task_of_setup setup start))
   pub kept : IfOk found (λ answer. EndsWholeRun (end answer))
 
 -- the ending is that of a run by the setup's workers, which are guided by its tables and keep to its limit, or by one of them
@@ -75,7 +75,7 @@ IsOfProvedRun setup start given = IsFound IsGiven without_rows setup start given
 abbrev pub AnswersBoard : {X : Type 0} → (Task → X → Type 0) → (X → Type 0) → X → SetupModel → BoardModel → Option X → Type 0
 AnswersBoard answers is_of_run parity setup start None = SameClass start setup.goal
 AnswersBoard answers is_of_run parity setup start (Some answer) =
-    answers (task_of setup start) answer
+    answers (task_of_setup setup start) answer
     × ((SameClass start setup.goal × is_of_run answer) ⊎ ((¬ SameClass start setup.goal) × (answer ≡ parity)))
 
 -- how a board may be answered by an ending
@@ -88,11 +88,11 @@ MayCertify setup start = AnswersBoard Answers (IsOfProvedRun setup start) (outco
 
 -- the boards of the setup's shape, what is asked of them, and how they may be answered
 abbrev pub rules_of : SetupModel → Rules
-rules_of setup = record { grid = setup.goal.grid; task = task_of setup; allows = MayAnswer setup }
+rules_of setup = record { grid = setup.goal.grid; task = task_of_setup setup; allows = MayAnswer setup }
 
 -- and how where the rows are asked for
 abbrev pub certifying_rules_of : SetupModel → ProofRules
-certifying_rules_of setup = record { grid = setup.goal.grid; task = task_of setup; allows = MayCertify setup }
+certifying_rules_of setup = record { grid = setup.goal.grid; task = task_of_setup setup; allows = MayCertify setup }
 
 -- ---- figures
 

@@ -5,11 +5,11 @@ use Rattle.world_model.specs.declared.steps.HaltCause.{HaltCause}
 use Rattle.world_model.specs.declared.steps.HaltCause.TheVariants.{Limit, Memory, Start}
 use Rattle.world_model.specs.declared.steps.Step.{Step}
 use Rattle.world_model.specs.declared.steps.Step.TheVariants.{Expand, Settle, Send, Deliver, Draw, Announce, Grant, Rest, Halt}
-use Rattle.batch_lines.specs.Words.{SpellsNumber}
+use Rattle.batch_lines.specs.Words.{SpellsDecimal}
 
 -- a word of one to nine digits, with this value
 abbrev pub IsNumberWord : List ℕ → ℕ → Type 0
-IsNumberWord word n = SpellsNumber word n × (length word ≤ 9)
+IsNumberWord word n = SpellsDecimal word n × (length word ≤ 9)
 
 -- the word for the cause of a halt; a line can't say that memory was refused
 abbrev pub SaysCause : List ℕ → HaltCause → Type 0

@@ -25,7 +25,7 @@ use Rattle.lower_bound.specs.Bounds.{Part, sum_of}
 use Rattle.lower_bound.specs.declared.bound.TheConstants.{GREATEST_SUM}
 use Rattle.lower_bound.proofs.SlideLemmas.{cells_exchanged, few_cells}
 use Rattle.search_keys.proofs.ZeroLemmas.{five_bits, long_put}
-use Rattle.successor_sums.specs.Unpacked.{FitsGrid, board_in, IsUnpacked, told_of}
+use Rattle.successor_sums.specs.Unpacked.{FitsGrid, unpacked_board, IsUnpacked, told_of}
 use Rattle.successor_sums.specs.declared.unpacked.Successor.{Successor}
 use Rattle.successor_sums.specs.declared.unpacked.UnpackedBoard.TheInside.{Inside}
 
@@ -103,11 +103,11 @@ unpacked_as inside b has of =
     record { board = subst IsBoard (sym same) has.board; key = ap key_of same ∙ has.packed; cells = subst (λ (p : BoardModel). AreCellsOf p inside.cells) (sym same) of }
 
 -- the blank's cell
-pub blank_is : (inside : Inside) → IsUnpacked inside → slice_index inside.cells 0 ≡ blank_of (board_in inside)
-blank_is inside unpacked = unpacked.cells.are 0 (cells_above (board_in inside).grid unpacked.board.sides)
+pub blank_is : (inside : Inside) → IsUnpacked inside → slice_index inside.cells 0 ≡ blank_of (unpacked_board inside)
+blank_is inside unpacked = unpacked.cells.are 0 (cells_above (unpacked_board inside).grid unpacked.board.sides)
 
-pub blank_below : (inside : Inside) → IsUnpacked inside → slice_index inside.cells 0 < cell_count (board_in inside).grid
-blank_below inside unpacked = subst (λ (k : ℕ). k < cell_count (board_in inside).grid) (sym (blank_is inside unpacked)) (blank_stands (board_in inside) unpacked.board).0
+pub blank_below : (inside : Inside) → IsUnpacked inside → slice_index inside.cells 0 < cell_count (unpacked_board inside).grid
+blank_below inside unpacked = subst (λ (k : ℕ). k < cell_count (unpacked_board inside).grid) (sym (blank_is inside unpacked)) (blank_stands (unpacked_board inside) unpacked.board).0
 
 -- what holds where the blank goes from its cell to another, on which a tile stands
 pub record IsLedTo (inside : Inside) (b : BoardModel) (count from to tile : ℕ) : Type 0 where
@@ -122,9 +122,9 @@ pub record IsLedTo (inside : Inside) (b : BoardModel) (count from to tile : ℕ)
   pub blank : blank_of (blank_exchange b to) ≡ to
   pub cells : AreCellsOf (blank_exchange b to) (exchanged inside.cells tile)
 
-module _ (inside : Inside) (m : Move) (count from to : ℕ) (unpacked : IsUnpacked inside) (counted : count ≡ cell_count inside.shape) (at : from ≡ blank_of (board_in inside)) (lies : LiesTowards inside.shape m from to) where
+module _ (inside : Inside) (m : Move) (count from to : ℕ) (unpacked : IsUnpacked inside) (counted : count ≡ cell_count inside.shape) (at : from ≡ blank_of (unpacked_board inside)) (lies : LiesTowards inside.shape m from to) where
   abbrev b : BoardModel
-  b = (board_in inside)
+  b = (unpacked_board inside)
 
   below : to < cell_count b.grid
   below = cell_below b.grid m from to lies
@@ -169,7 +169,7 @@ module _ (inside : Inside) (m : Move) (count from to : ℕ) (unpacked : IsUnpack
       subst (λ (t : ℕ). IsLedTo inside b count from to t) (sym (read ∙ (λ i. sym unpacked.key i / 32 ^ (counted i - 1 - to) % 32) ∙ digit)) led_there
 
 -- so it is for the board that lies in memory
-pub led_to : (inside : Inside) (b : BoardModel) (m : Move) (count from to tile : ℕ) → IsUnpacked inside → board_in inside ≡ b → count ≡ cell_count inside.shape → from ≡ blank_of b → LiesTowards inside.shape m from to → tile ≡ inside.key / 32 ^ (count - 1 - to) % 32 → IsLedTo inside b count from to tile
+pub led_to : (inside : Inside) (b : BoardModel) (m : Move) (count from to tile : ℕ) → IsUnpacked inside → unpacked_board inside ≡ b → count ≡ cell_count inside.shape → from ≡ blank_of b → LiesTowards inside.shape m from to → tile ≡ inside.key / 32 ^ (count - 1 - to) % 32 → IsLedTo inside b count from to tile
 led_to inside b m count from to tile unpacked is counted at lies read = subst (λ (p : BoardModel). IsLedTo inside p count from to tile) is (led_here inside m count from to unpacked counted (at ∙ sym (ap blank_of is)) lies tile read)
 
 -- ---- what is told of a successor

@@ -46,11 +46,11 @@ pub record FitsGrid (grid : ShapeModel) (s : Successor) : Type 0 where
 -- ---- what lies in memory
 
 -- what the memory holds: its shape and the digits of its key
-abbrev pub board_in : Inside → BoardModel
-board_in inside = record { grid = inside.shape; tiles = digits_of (cell_count inside.shape) inside.key }
+abbrev pub unpacked_board : Inside → BoardModel
+unpacked_board inside = record { grid = inside.shape; tiles = digits_of (cell_count inside.shape) inside.key }
 
 -- that is a board with this key, and the cell of each number is there
 pub record IsUnpacked (inside : Inside) : Type 0 where
-  pub board : IsBoard (board_in inside)
-  pub key : key_of (board_in inside) ≡ inside.key
-  pub cells : AreCellsOf (board_in inside) inside.cells
+  pub board : IsBoard (unpacked_board inside)
+  pub key : key_of (unpacked_board inside) ≡ inside.key
+  pub cells : AreCellsOf (unpacked_board inside) inside.cells

@@ -1,7 +1,7 @@
 //! The successors of a board with their sums, and the cells to which its blank can go.
 //!
 //! A board is taken apart once, with the cell of each tile beside the tiles. A successor is then
-//! two cells exchanged, and has its key alone: no board is made of it.
+//! two cells exchanged and is given by its key: no board is made of it.
 #![tactic(auto)]
 
 mod by_moves;

@@ -42,9 +42,9 @@ impl Model for UnpackedBoard {
 
     ghost Value = { BoardModel };
 
-    ghost use Rattle.successor_sums.specs.Unpacked.{board_in, IsUnpacked};
+    ghost use Rattle.successor_sums.specs.Unpacked.{unpacked_board, IsUnpacked};
 
-    ghost view = { board_in };
+    ghost view = { unpacked_board };
 
     ghost invariant = { IsUnpacked };
 }

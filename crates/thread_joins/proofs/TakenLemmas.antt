@@ -19,9 +19,9 @@ use Rattle.rings.specs.Rings.{SenderModel, ReceiverModel, out_rings, in_rings, s
 use Rattle.rings.proofs.EndLemmas.{map_at_set, map_at_other}
 use Rattle.hda_run.specs.Jobs.{JobModel, task_in}
 use Rattle.thread_parts.specs.declared.part.Part.{Part}
-use Rattle.thread_parts.specs.Parts.{SealedModel, IsSoundPart, face_of, part_state, role_of}
+use Rattle.thread_parts.specs.Parts.{SealedModel, IsSoundPart, face_of, part_state, role_of_part}
 use Rattle.thread_joins.specs.Lanes.{IsTied}
-use Rattle.thread_joins.specs.Worlds.{parts_with, AreTakenApart, shared_by}
+use Rattle.thread_joins.specs.Worlds.{parts_with, AreTakenApart, shared_of_job}
 use Rattle.thread_joins.specs.declared.apart.Joined.{Joined}
 use Rattle.thread_joins.specs.Threads.{IsJoint}
 
@@ -154,7 +154,7 @@ mapped_at f (x ∷ xs) (suc i) y at = mapped_at f xs i y at
 -- each of these parts keeps what a part keeps in its role
 abbrev pub AllHold : {S : Type 0} → (S → ℕ → BoardModel → ℕ) → JobModel → S → ℕ → List PartState → Type 0
 AllHold owner_of p owners n parts =
-    (i : ℕ) (it : PartState) → slice_get parts i ≡ Some it → IsRole n (role_in (shared_by owner_of p owners n) i) × Keeps n (role_in (shared_by owner_of p owners n) i) it
+    (i : ℕ) (it : PartState) → slice_get parts i ≡ Some it → IsRole n (role_in (shared_of_job owner_of p owners n) i) × Keeps n (role_in (shared_of_job owner_of p owners n) i) it
 
 module _ {S C D E K G : Type 0} where
   -- The parts with the first of these faces were taken apart, and the others come next.
@@ -229,12 +229,12 @@ module _ {S C D E K G : Type 0} where
       me_is : it.me ≡ length before
       me_is = ap (λ (face : SealedModel S). face.me) is ∙ (joint.places (length taken.done) one face_at ∙ sym before_count)
 
-      role_is : role_of owner_of n it ≡ role_in (shared_by owner_of p owners n) (length before)
+      role_is : role_of_part owner_of n it ≡ role_in (shared_of_job owner_of p owners n) (length before)
       role_is = λ t. record { task = task_in (job_is t); owner = λ b. owner_of (owners_are t) n b; me = me_is t }
 
       hold_more : AllHold owner_of p owners n (before ++ part_state it ∷ [])
       hold_more =
-          each_more (λ (i : ℕ) (x : PartState). IsRole n (role_in (shared_by owner_of p owners n) i) × Keeps n (role_in (shared_by owner_of p owners n) i) x) before (part_state it) (taken.hold p owners joint)
+          each_more (λ (i : ℕ) (x : PartState). IsRole n (role_in (shared_of_job owner_of p owners n) i) × Keeps n (role_in (shared_of_job owner_of p owners n) i) x) before (part_state it) (taken.hold p owners joint)
           (subst (λ (r : Role). IsRole n r) role_is holds.role, subst (λ (r : Role). Keeps n r (part_state it)) role_is holds.keeps)
 
       guided_more : AreWorkersGuided (task_in p) (guide_of (task_in p)) (workers ++ it.worker ∷ [])

@@ -46,7 +46,7 @@ use Rattle.hda_run.specs.Lanes.{IsOfOne}
 use Rattle.hda_run.specs.Jobs.{JobModel, task_in}
 use Rattle.thread_joins.specs.Lanes.{lanes_from, by_sender, AreOfWidth, IsLeftInRows, IsTied}
 use Rattle.thread_joins.specs.declared.apart.Joined.{Joined}
-use Rattle.thread_joins.specs.Worlds.{IsWorldOf, AreAtRest, AreTakenApart, parts_in, parts_with, shared_by}
+use Rattle.thread_joins.specs.Worlds.{IsWorldOf, AreAtRest, AreTakenApart, parts_in, parts_with, shared_of_job}
 use Rattle.thread_joins.proofs.TakenLemmas.{map_at, mapped_at, part_at, part_count, part_workers, some_is}
 use Rattle.board.specs.Weights.{WeightsModel}
 use Rattle.board.specs.Rows.{IsLowerBound}
@@ -211,7 +211,7 @@ module _ {S C D E K G : Type 0} (owner_of : S → ℕ → BoardModel → ℕ) (p
     (sent : sent_rows new.outs.items ≡ sent_rows old.outs.items) (received : received_rows new.ins.items ≡ received_rows old.ins.items) (rings : rings_of_ins new.ins.items ≡ rings_of_ins old.ins.items)
     (tied : (i j : ℕ) → i < n → j < n → IsTied (lane_at (sent_rows new.outs.items) i j) (lane_at (received_rows new.ins.items) j i) (lane_at (left_rows new.ins.items) j i)) where
   abbrev shared : Shared
-  shared = shared_by owner_of p owners n
+  shared = shared_of_job owner_of p owners n
 
   abbrev parts : List PartState
   parts = parts_in new

@@ -19,8 +19,8 @@ use Rattle.thread_joins.specs.declared.apart.Joined.{Joined}
 use Rattle.thread_joins.specs.Lanes.{AreOfWidth, by_sender}
 
 -- what n workers share: the task, and who owns which board among n
-abbrev pub shared_by : {S : Type 0} → (S → ℕ → BoardModel → ℕ) → JobModel → S → ℕ → Shared
-shared_by owner_of p owners n = record { task = task_in p; owner = owner_of owners n }
+abbrev pub shared_of_job : {S : Type 0} → (S → ℕ → BoardModel → ℕ) → JobModel → S → ℕ → Shared
+shared_of_job owner_of p owners n = record { task = task_in p; owner = owner_of owners n }
 
 -- workers, with what each sent and received
 abbrev pub parts_with : List WorkerState → List (List Lane) → List (List Lane) → List PartState
@@ -45,8 +45,8 @@ module _ {C D E K G : Type 0} where
     pub workers : length joined.workers.items ≡ n
     pub outs : length joined.outs.items ≡ n
     pub ins : length joined.ins.items ≡ n
-    pub roles : (i : ℕ) (part : PartState) → slice_get (parts_in joined) i ≡ Some part → IsRole n (role_in (shared_by owner_of p owners n) i)
-    pub keep : (i : ℕ) (part : PartState) → slice_get (parts_in joined) i ≡ Some part → Keeps n (role_in (shared_by owner_of p owners n) i) part
+    pub roles : (i : ℕ) (part : PartState) → slice_get (parts_in joined) i ≡ Some part → IsRole n (role_in (shared_of_job owner_of p owners n) i)
+    pub keep : (i : ℕ) (part : PartState) → slice_get (parts_in joined) i ≡ Some part → Keeps n (role_in (shared_of_job owner_of p owners n) i) part
     pub guided : AreWorkersGuided (task_in p) (guide_of (task_in p)) joined.workers.items
     pub paired : ArePaired n (rings_of_outs joined.outs.items) (rings_of_ins joined.ins.items)
 

@@ -27,7 +27,7 @@ use Rattle.world_model.specs.Books.{BookState, grant_of}
 use Rattle.world_model.specs.Turns.{turn}
 use Rattle.world_model.proofs.CreditLemmas.{not_below_stable}
 use Rattle.world_model.proofs.StepCases.{Announces, Cases, Draws, Grants, Halts, Rests, announce_cases, draw_cases, grant_cases, halt_cases, rest_cases}
-use Rattle.thread_model.specs.Changes.{opening_part, with_packet, IsBookStep, with_worker}
+use Rattle.thread_model.specs.Changes.{opening_part, with_packet, IsBookStep, part_with_worker}
 use Rattle.thread_model.specs.Laws.{OpeningsAreKept, ReceivingIsKept, SendingIsKept, BookStepsAreKept}
 use Rattle.thread_model.specs.Parts.{HasUnsent, IsAmong, IsRole, Keeps, KnowsAtMost, WasSent, AreFor, CameAs, HasCome, HasOrigin, IsSeenTo, LeadsBack, PartState}
 
@@ -321,7 +321,7 @@ idle_stable task worker limit best not = record {
 
 module _ (n : ℕ) (role : Role) (part : PartState) (keeps : Keeps n role part) where
   -- another purse and allowance, and another copy of the best cost, where a worker with no purse has nothing to do
-  renewed_keeps : (purse allowance : ℕ) (best : Option ℕ) → (purse ≡ 0 → IsIdle role.task part.worker (limit_of best) best) → Keeps n role (with_worker part (record part.worker { purse = purse; allowance = allowance; best = best }))
+  renewed_keeps : (purse allowance : ℕ) (best : Option ℕ) → (purse ≡ 0 → IsIdle role.task part.worker (limit_of best) best) → Keeps n role (part_with_worker part (record part.worker { purse = purse; allowance = allowance; best = best }))
   renewed_keeps purse allowance best idle = record {
     shaped = shaped_same n role (record part.worker { held = [] }) keeps.shaped (record part.worker { held = []; purse = purse; allowance = allowance; best = best }) refl refl refl;
     few_held = keeps.few_held;
@@ -352,7 +352,7 @@ module _ (n : ℕ) (role : Role) (part : PartState) (keeps : Keeps n role part) 
     new = record { worker = worker; book = book' }
 
     abbrev After : WorkerState → Type 0
-    After x = Keeps n role (with_worker part x)
+    After x = Keeps n role (part_with_worker part x)
 
     draw_keeps : Draws old new → After worker
     draw_keeps step = subst After (sym (ap (λ (x : AtBook). x.worker) step.is)) (renewed_keeps (part.worker.purse + CREDIT_DRAWN) part.worker.allowance book.best (λ empty. absurd (omega arith)))

@@ -9,7 +9,7 @@ use Rattle.std.proofs.lemmas.List.Elements.{Contains-push}
 use Rattle.search_keys.specs.SearchKeys.{search_key}
 use Rattle.world_model.specs.Books.{BookState}
 use Rattle.world_model.specs.Shapes.{IsShaped}
-use Rattle.world_model.specs.Steps.{with_lane, IsRun, Next, OnBook, from_to}
+use Rattle.world_model.specs.Steps.{with_lane, IsRun, Next, OnBook, lane_ends}
 use Rattle.world_model.specs.Workers.{Lane, Packet, WorkerState, IsIdle, Role, packet_for}
 use Rattle.world_model.specs.Worlds.{IsLane, WorldState, role_of, IsWorker}
 use Rattle.world_model.proofs.ChangeLemmas.{changed, lane_after, lane_there, at_set, get_below, get_set_other, worker_there, head_in, is_empty, none_in_empty, known_owned}
@@ -32,7 +32,7 @@ use Rattle.world_model.proofs.RunLemmas.{openings_sound}
 use Rattle.world_model.proofs.ShapeKept.{shaped_same, steps_shaped}
 use Rattle.world_model.proofs.CreditLemmas.{steps_credited}
 use Rattle.thread_model.specs.Parts.{IsRole, Keeps, PartState}
-use Rattle.thread_model.specs.Changes.{with_packet, IsBookStep, IsPartStep, Receives, Sends, StepsAlone, with_worker}
+use Rattle.thread_model.specs.Changes.{with_packet, IsBookStep, IsPartStep, Receives, Sends, StepsAlone, part_with_worker}
 use Rattle.thread_model.specs.Joined.{IsAt, IsOfParts, shared_by, workers_of, opening_parts}
 use Rattle.thread_model.specs.Laws.{NothingHeldIsForeign, RunsAreOfParts, StepsAreOfParts}
 use Rattle.thread_model.proofs.JoinedLemmas.{ends_of, part_of, part_shaped, openings_of_parts}
@@ -299,7 +299,7 @@ nothing_foreign shared parts lanes i part are at front last held =
     (part_shaped shared parts lanes are i part at).held.items last (subst (λ (xs : List Item). Contains xs last) (sym held) (Contains-push front last))
 
 -- a part keeps what it keeps where its worker knows, holds and has unsent the same, and is idle where its purse is empty
-same_kept : (n : ℕ) (role : Role) (part : PartState) (worker : WorkerState) → IsRole n role → Keeps n role part → IsSame part.worker worker → (worker.purse ≡ 0 → IsIdle role.task worker (limit_of worker.best) worker.best) → Keeps n role (with_worker part worker)
+same_kept : (n : ℕ) (role : Role) (part : PartState) (worker : WorkerState) → IsRole n role → Keeps n role part → IsSame part.worker worker → (worker.purse ≡ 0 → IsIdle role.task worker (limit_of worker.best) worker.best) → Keeps n role (part_with_worker part worker)
 same_kept n role part worker is keeps same resting = worker_kept role part worker
     (record {
       lower = λ b known knows. (known, ap (λ (k : Knowledge). finite.get k (search_key b)) same.known ∙ knows, omega arith);
@@ -377,14 +377,14 @@ module _ (w : WorldState) (parts : List PartState) (of : IsOfParts w parts) wher
 
   -- worker i takes a step by itself
   own_step : (i : ℕ) (Change : WorkerState → WorkerState → Type 0) (w' : WorldState)
-      → ((part : PartState) (new : WorkerState) → slice_get parts i ≡ Some part → Change part.worker new → Keeps n (role_of w i) (with_worker part new) × StepsAlone (role_of w i) part (with_worker part new))
+      → ((part : PartState) (new : WorkerState) → slice_get parts i ≡ Some part → Change part.worker new → Keeps n (role_of w i) (part_with_worker part new) × StepsAlone (role_of w i) part (part_with_worker part new))
       → IsShaped w'
       → OwnChange i Change w w'
       → StaysJoined w' i
   own_step i Change w' kept shaped step =
       let p = part_at i step.worker step.at in
       let part = p.0 in
-      let new = with_worker part step.new in
+      let new = part_with_worker part step.new in
       let keeps = kept part step.new p.1 (subst (λ (x : WorkerState). Change x step.new) (sym p.2) step.change) in
       let joined = changed_of_parts w parts of i part p.1 new w.book w.lanes (subst IsShaped step.is shaped) keeps.0 (tied_without_lane w parts of i part p.1 new refl refl) in
       (part, new, p.1, inl keeps.1, subst (λ (x : WorldState). IsOfParts x (slice_set parts i new)) (sym step.is) joined)
@@ -400,7 +400,7 @@ module _ (w : WorldState) (parts : List PartState) (of : IsOfParts w parts) wher
   book_step i BookStep answer w' one shaped credited (inr (there, (worker, at, here, step, is))) =
       let p = part_at i worker here in
       let part = p.0 in
-      let new = with_worker part at.worker in
+      let new = part_with_worker part at.worker in
       let taken = subst (λ (x : WorkerState). IsBookStep (role_of w i) (turn (record { worker = x; book = w.book }) answer at)) (sym p.2) (one (turn (record { worker = worker; book = w.book }) answer at) step) in
       let same = same_worker (role_of w i) (turn (record { worker = part.worker; book = w.book }) answer at) taken in
       let is_shaped = subst IsShaped is shaped in
@@ -410,7 +410,7 @@ module _ (w : WorldState) (parts : List PartState) (of : IsOfParts w parts) wher
       inr (part, new, p.1, inr (inl (answer, at.worker, w.book, at.book, taken, refl)), subst (λ (x : WorldState). IsOfParts x (slice_set parts i new)) (sym is) joined)
 
   -- worker i sends a packet to worker j
-  send_step : (i j : ℕ) (w' : WorldState) → IsShaped w' → LaneChange i (from_to i j) (SendsOnLane j) w w' → StaysJoined w' i
+  send_step : (i j : ℕ) (w' : WorldState) → IsShaped w' → LaneChange i (lane_ends i j) (SendsOnLane j) w w' → StaysJoined w' i
   send_step i j w' shaped step =
       let p = part_at i step.worker step.at in
       let part = p.0 in
@@ -429,7 +429,7 @@ module _ (w : WorldState) (parts : List PartState) (of : IsOfParts w parts) wher
       at_least_two purse not = ⊎_elim (λ (lt : purse < 2). absurd (not lt)) (λ (le : 2 ≤ purse). le) (cases_lt purse 2)
 
   -- worker i takes in a packet from worker j
-  deliver_step : (i j : ℕ) (w' : WorldState) → IsShaped w → IsShaped w' → LaneChange i (from_to j i) Delivers w w' → StaysJoined w' i
+  deliver_step : (i j : ℕ) (w' : WorldState) → IsShaped w → IsShaped w' → LaneChange i (lane_ends j i) Delivers w w' → StaysJoined w' i
   deliver_step i j w' old shaped step =
       let p = part_at i step.worker step.at in
       let part = p.0 in
@@ -449,7 +449,7 @@ module _ (w : WorldState) (parts : List PartState) (of : IsOfParts w parts) wher
   expands : (i : ℕ) (w' : WorldState) → IsShaped w' → OwnChange i (Expands (role_of w i)) w w' → StaysJoined w' i
   expands i w' shaped step = own_step i (Expands (role_of w i)) w' kept shaped step
     where
-      kept : (part : PartState) (new : WorkerState) → slice_get parts i ≡ Some part → Expands (role_of w i) part.worker new → Keeps n (role_of w i) (with_worker part new) × StepsAlone (role_of w i) part (with_worker part new)
+      kept : (part : PartState) (new : WorkerState) → slice_get parts i ≡ Some part → Expands (role_of w i) part.worker new → Keeps n (role_of w i) (part_with_worker part new) × StepsAlone (role_of w i) part (part_with_worker part new)
       kept part new at change =
           let taken = expand_step (role_of w i) part.worker new change in
           (expanding_kept n (role_of w i) part None new (of.0.roles i part at) (of.0.keep i part at) (inl taken), (None, new, inl taken, refl))
@@ -457,7 +457,7 @@ module _ (w : WorldState) (parts : List PartState) (of : IsOfParts w parts) wher
   settles : (i : ℕ) (w' : WorldState) → IsShaped w' → OwnChange i Settles w w' → StaysJoined w' i
   settles i w' shaped step = own_step i Settles w' kept shaped step
     where
-      kept : (part : PartState) (new : WorkerState) → slice_get parts i ≡ Some part → Settles part.worker new → Keeps n (role_of w i) (with_worker part new) × StepsAlone (role_of w i) part (with_worker part new)
+      kept : (part : PartState) (new : WorkerState) → slice_get parts i ≡ Some part → Settles part.worker new → Keeps n (role_of w i) (part_with_worker part new) × StepsAlone (role_of w i) part (part_with_worker part new)
       kept part new at change =
           let taken = settle_step part.worker new change in
           (settling_kept n (role_of w i) part None new (of.0.roles i part at) (of.0.keep i part at) (nothing_foreign (shared_by w) parts w.lanes i part of.0 at) taken, (None, new, inr taken, refl))

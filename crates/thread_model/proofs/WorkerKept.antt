@@ -30,7 +30,7 @@ use Rattle.world_model.proofs.ChangeLemmas.{known_owned, entry, same_search_key,
 use Rattle.world_model.proofs.StepCases.{IsLeft, ExpandsBy, expand_cases_by, Settles, settle_cases}
 use Rattle.world_model.specs.Knowledge.{relaxation}
 use Rattle.thread_model.specs.Parts.{PartState, HasUnsent, WasSent, KnowsAtMost, IsSeenTo, LeadsBack, IsMade, HasOrigin, HasCome, IsRole, Keeps, KnowsBefore}
-use Rattle.thread_model.specs.Changes.{with_worker}
+use Rattle.thread_model.specs.Changes.{part_with_worker}
 use Rattle.thread_model.specs.Laws.{ExpandingIsKept, SettlingIsKept, DroppingIsKept}
 
 -- ---- which changes of a part's worker alone keep what the part keeps
@@ -56,7 +56,7 @@ pub record IsFounded (role : Role) (part : PartState) (b : BoardModel) (known : 
 pub record AddsWell (n : ℕ) (role : Role) (part : PartState) (worker : WorkerState) : Type 0 where
   pub shaped : IsShapedWorker n role (record worker { held = [] })
   pub few_held : length worker.held ≤ PACKET_LIMIT
-  pub known : (b : BoardModel) (known : Known) → IsTaskBoard role.task b → KnowsAs worker b known → KnowsAs part.worker b known ⊎ IsFounded role (with_worker part worker) b known
+  pub known : (b : BoardModel) (known : Known) → IsTaskBoard role.task b → KnowsAs worker b known → KnowsAs part.worker b known ⊎ IsFounded role (part_with_worker part worker) b known
   pub items : (to : ℕ) (item : Item) → HasUnsent worker to item → HasUnsent part.worker to item ⊎ IsMade role worker item.board item.cost item.via
   pub held : (item : Item) → Contains worker.held item → Contains part.worker.held item
   pub settled : (item : Item) → Contains part.worker.held item → IsItemFor role.task role.owner role.me item → KnowsAtMost worker item.board item.cost ⊎ Contains worker.held item
@@ -66,12 +66,12 @@ module _ (role : Role) (part : PartState) (worker : WorkerState) (remembers : Re
   at_most_kept : (b : BoardModel) (cost : ℕ) → KnowsAtMost part.worker b cost → KnowsAtMost worker b cost
   at_most_kept b cost has = let now = remembers.lower b has.0 has.1 in (now.0, now.1, omega (arith, now.2, has.2))
 
-  seen_to_kept : (b : BoardModel) (cost : ℕ) → IsSeenTo role part b cost → IsSeenTo role (with_worker part worker) b cost
+  seen_to_kept : (b : BoardModel) (cost : ℕ) → IsSeenTo role part b cost → IsSeenTo role (part_with_worker part worker) b cost
   seen_to_kept b cost (inl own) = inl (own.0, at_most_kept b cost own.1)
   seen_to_kept b cost (inr (item, inl unsent, board, le)) = inr (item, inl (remembers.unsent (role.owner b) item unsent), board, le)
   seen_to_kept b cost (inr (item, inr sent, board, le)) = inr (item, inr sent, board, le)
 
-  successor_kept : (b' : BoardModel) (cost : ℕ) (b : BoardModel) (known : Known) (m : Move) → IsSeenTo role part b' cost ⊎ LeadsBack part b known m → IsSeenTo role (with_worker part worker) b' cost ⊎ LeadsBack (with_worker part worker) b known m
+  successor_kept : (b' : BoardModel) (cost : ℕ) (b : BoardModel) (known : Known) (m : Move) → IsSeenTo role part b' cost ⊎ LeadsBack part b known m → IsSeenTo role (part_with_worker part worker) b' cost ⊎ LeadsBack (part_with_worker part worker) b known m
   successor_kept b' cost b known m (inl seen) = inl (seen_to_kept b' cost seen)
   successor_kept b' cost b known m (inr back) = inr back
 
@@ -79,7 +79,7 @@ module _ (role : Role) (part : PartState) (worker : WorkerState) (remembers : Re
   made_kept b cost via (inl start) = inl start
   made_kept b cost via (inr (before, c, known, board, moves, knows, le)) = let now = remembers.lower before known knows in inr (before, c, now.0, board, moves, now.1, omega (arith, now.2, le))
 
-  pub origin_kept : (b : BoardModel) (cost : ℕ) (via : Move) → HasOrigin role part b cost via → HasOrigin role (with_worker part worker) b cost via
+  pub origin_kept : (b : BoardModel) (cost : ℕ) (via : Move) → HasOrigin role part b cost via → HasOrigin role (part_with_worker part worker) b cost via
   origin_kept b cost via (inl made) = inl (made_kept b cost via made)
   origin_kept b cost via (inr came) = inr came
 
@@ -92,19 +92,19 @@ module _ (role : Role) (part : PartState) (worker : WorkerState) (remembers : Re
     arrived item came mine = ⊎_elim (λ old. inl (at_most_kept item.board item.cost old)) (λ held. adds.settled item held mine) (keeps.arrived item came mine)
 
     -- a worker that forgets nothing and adds only what is well founded keeps what its part keeps
-    pub worker_kept : Keeps n role (with_worker part worker)
+    pub worker_kept : Keeps n role (part_with_worker part worker)
     worker_kept = record {
       shaped = adds.shaped;
       few_held = adds.few_held;
       ends = keeps.ends;
       sent = keeps.sent;
       start = λ mine. at_most_kept role.task.start 0 (keeps.start mine);
-      successors = λ b known board knows closed m b' c moves. ⊎_elim (λ old. successor_kept b' (known.cost + c) b known m (keeps.successors b known board old closed m b' c moves)) (λ (new : IsFounded role (with_worker part worker) b known). (new.closed closed).1 m b' c moves) (adds.known b known board knows);
-      origins = λ b known board knows. ⊎_elim (λ old. origin_kept b known.cost known.via (keeps.origins b known board old)) (λ (new : IsFounded role (with_worker part worker) b known). new.origin) (adds.known b known board knows);
+      successors = λ b known board knows closed m b' c moves. ⊎_elim (λ old. successor_kept b' (known.cost + c) b known m (keeps.successors b known board old closed m b' c moves)) (λ (new : IsFounded role (part_with_worker part worker) b known). (new.closed closed).1 m b' c moves) (adds.known b known board knows);
+      origins = λ b known board knows. ⊎_elim (λ old. origin_kept b known.cost known.via (keeps.origins b known board old)) (λ (new : IsFounded role (part_with_worker part worker) b known). new.origin) (adds.known b known board knows);
       made = made;
       held = λ item has. keeps.held item (adds.held item has);
       arrived = arrived;
-      goal_kept = λ known knows. ⊎_elim (λ old. keeps.goal_kept known old) (λ (new : IsFounded role (with_worker part worker) role.task.goal known). false_from_ne_true known.expanded (λ closed. (new.closed closed).0 refl)) (adds.known role.task.goal known (is.task.goal, refl) knows);
+      goal_kept = λ known knows. ⊎_elim (λ old. keeps.goal_kept known old) (λ (new : IsFounded role (part_with_worker part worker) role.task.goal known). false_from_ne_true known.expanded (λ closed. (new.closed closed).0 refl)) (adds.known role.task.goal known (is.task.goal, refl) knows);
       resting = adds.resting;
     }
 
@@ -181,7 +181,7 @@ module _ (n : ℕ) (role : Role) (part : PartState) (is : IsRole n role) (keeps 
   remembers = record { lower = lower; unsent = λ to item has. all_unsent role offers marked lists to item has }
 
   -- what an offer leads to is seen to
-  offer_seen_to : (offer : Item) → Among offers offer → IsSeenTo role (with_worker part done) offer.board offer.cost
+  offer_seen_to : (offer : Item) → Among offers offer → IsSeenTo role (part_with_worker part done) offer.board offer.cost
   unfolding done offers marked
   offer_seen_to offer among =
       ⊎_elim (λ (mine : role.owner offer.board ≡ role.me). inl (mine, all_there role offers marked offer among mine))
@@ -189,25 +189,25 @@ module _ (n : ℕ) (role : Role) (part : PartState) (is : IsRole n role) (keeps 
       (cases_eq (role.owner offer.board) role.me)
 
   -- and so is what the move back leads to, where the worker knows the board before
-  before_seen_to : KnowsBefore role part.worker b known.cost known.via → (b' : BoardModel) (c : ℕ) → Moves role.task.rule b (opposite known.via) b' c → IsSeenTo role (with_worker part done) b' (known.cost + c)
+  before_seen_to : KnowsBefore role part.worker b known.cost known.via → (b' : BoardModel) (c : ℕ) → Moves role.task.rule b (opposite known.via) b' c → IsSeenTo role (part_with_worker part done) b' (known.cost + c)
   before_seen_to (before, cost, first, board, there, knows, low) b' c leads =
       let own = known_owned n role (empty_handed part.worker) is.task keeps.shaped before first board knows in
       let now = lower before first knows in
-      subst (λ (x : BoardModel). IsSeenTo role (with_worker part done) x (known.cost + c))
+      subst (λ (x : BoardModel). IsSeenTo role (part_with_worker part done) x (known.cost + c))
       (led_back role.task.rule b known.via before cost b' c board.0 open_at.board.0 there leads)
       (inl (own.0, (now.0, now.1, omega (arith, now.2, low))))
 
   -- the move that is left out leads to what is seen to, or back to where the board came from
-  left_out_seen_to : (m : Move) (b' : BoardModel) (c : ℕ) → Moves role.task.rule b m b' c → left_out ≡ Some m → IsSeenTo role (with_worker part done) b' (known.cost + c) ⊎ LeadsBack (with_worker part done) b known m
+  left_out_seen_to : (m : Move) (b' : BoardModel) (c : ℕ) → Moves role.task.rule b m b' c → left_out ≡ Some m → IsSeenTo role (part_with_worker part done) b' (known.cost + c) ⊎ LeadsBack (part_with_worker part done) b known m
   left_out_seen_to m b' c leads out = by_origin (keeps.origins b known open_at.board open_at.knows)
     where
-      by_origin : HasOrigin role part b known.cost known.via → IsSeenTo role (with_worker part done) b' (known.cost + c) ⊎ LeadsBack (with_worker part done) b known m
+      by_origin : HasOrigin role part b known.cost known.via → IsSeenTo role (part_with_worker part done) b' (known.cost + c) ⊎ LeadsBack (part_with_worker part done) b known m
       by_origin (inl (inl start)) = absurd (let later = (back m out).0 in omega (arith, later, start.1))
       by_origin (inl (inr before)) = inl (before_seen_to before b' c (subst (λ (x : Move). Moves role.task.rule b x b' c) (back m out).1 leads))
       by_origin (inr came) = inr ((back m out).0, (back m out).1, came)
 
   -- so each successor is seen to, but for one to which a move leads back
-  successor_seen_to : (m : Move) (b' : BoardModel) (c : ℕ) → Moves role.task.rule b m b' c → IsSeenTo role (with_worker part done) b' (known.cost + c) ⊎ LeadsBack (with_worker part done) b known m
+  successor_seen_to : (m : Move) (b' : BoardModel) (c : ℕ) → Moves role.task.rule b m b' c → IsSeenTo role (part_with_worker part done) b' (known.cost + c) ⊎ LeadsBack (part_with_worker part done) b known m
   unfolding offers
   successor_seen_to m b' c leads =
       ⊎_elim
@@ -241,25 +241,25 @@ module _ (n : ℕ) (role : Role) (part : PartState) (is : IsRole n role) (keeps 
       (λ new. let e : Some now ≡ Some (entry new.0) = sym at ∙ new.4 in inr (inr (new.0, new.1, new.3, cc)))
       (all_known role offers marked key)
 
-  board_founded : IsFounded role (with_worker part done) b (record known { expanded = true })
+  board_founded : IsFounded role (part_with_worker part done) b (record known { expanded = true })
   board_founded = record {
     origin = origin_kept role part done remembers b known.cost known.via (keeps.origins b known open_at.board open_at.knows);
     closed = λ closed. (open_at.no_goal, successor_seen_to);
   }
 
-  offer_founded : (offer : Item) → Among offers offer → IsFounded role (with_worker part done) offer.board (entry offer)
+  offer_founded : (offer : Item) → Among offers offer → IsFounded role (part_with_worker part done) offer.board (entry offer)
   offer_founded offer among = record { origin = inl (offer_made offer among); closed = λ closed. absurd (true≢false (sym closed)) }
 
-  new_founded : (x : BoardModel) (now : Known) → IsTaskBoard role.task x → IsNew (search_key x) now → IsFounded role (with_worker part done) x now
+  new_founded : (x : BoardModel) (now : Known) → IsTaskBoard role.task x → IsNew (search_key x) now → IsFounded role (part_with_worker part done) x now
   unfolding IsNew
   new_founded x now board (inl (same, new)) =
       let here = same_search_key role.task x b board open_at.board same in
-      subst (λ (y : BoardModel × Known). IsFounded role (with_worker part done) y.0 y.1) (λ t. (sym here t, sym new t)) board_founded
+      subst (λ (y : BoardModel × Known). IsFounded role (part_with_worker part done) y.0 y.1) (λ t. (sym here t, sym new t)) board_founded
   new_founded x now board (inr (offer, among, same, new)) =
       let here = same_search_key role.task x offer.board board (board_of offer among) same in
-      subst (λ (y : BoardModel × Known). IsFounded role (with_worker part done) y.0 y.1) (λ t. (sym here t, sym new t)) (offer_founded offer among)
+      subst (λ (y : BoardModel × Known). IsFounded role (part_with_worker part done) y.0 y.1) (λ t. (sym here t, sym new t)) (offer_founded offer among)
 
-  founded : (x : BoardModel) (now : Known) → IsTaskBoard role.task x → KnowsAs done x now → KnowsAs part.worker x now ⊎ IsFounded role (with_worker part done) x now
+  founded : (x : BoardModel) (now : Known) → IsTaskBoard role.task x → KnowsAs done x now → KnowsAs part.worker x now ⊎ IsFounded role (part_with_worker part done) x now
   founded x now board knows = ⊎_elim (λ old. inl old) (λ (new : IsNew (search_key x) now). inr (new_founded x now board new)) (done_before (search_key x) now knows)
 
   items : (to : ℕ) (item : Item) → HasUnsent done to item → HasUnsent part.worker to item ⊎ IsMade role done item.board item.cost item.via
@@ -271,7 +271,7 @@ module _ (n : ℕ) (role : Role) (part : PartState) (is : IsRole n role) (keeps 
   unfolding done offers marked
   not_resting busy none = absurd (busy (keeps.resting (sym (all_rest role offers marked).0 ∙ none)).no_board)
 
-  expanded_kept : ¬ HasNothingBelow role.task part.worker (limit_of part.worker.best) → known.cost + role.task.sum b ≤ GREATEST_EXPANDED_COST → ¬ IsOverfull (expansion_by (moves_but left_out) role part.worker b known) → Keeps n role (with_worker part (expansion_by (moves_but left_out) role part.worker b known))
+  expanded_kept : ¬ HasNothingBelow role.task part.worker (limit_of part.worker.best) → known.cost + role.task.sum b ≤ GREATEST_EXPANDED_COST → ¬ IsOverfull (expansion_by (moves_but left_out) role part.worker b known) → Keeps n role (part_with_worker part (expansion_by (moves_but left_out) role part.worker b known))
   unfolding done
   expanded_kept busy low room = worker_kept role part done remembers n is keeps (record {
     shaped = done_shaped low room;
@@ -295,12 +295,12 @@ back_left_out known m out = by_cost (cases_eq known.cost 0)
         (omega (arith, some), sym same)
 
 -- a step that leaves out what may be is kept
-kept_by : (n : ℕ) (role : Role) (part : PartState) (answer : Option Refusal) (worker : WorkerState) (left_out : Known → Option Move) → ((known : Known) (m : Move) → left_out known ≡ Some m → (0 < known.cost) × (m ≡ opposite known.via)) → IsRole n role → Keeps n role part → ExpandStepBy (λ known. moves_but (left_out known)) role (turn part.worker answer worker) → Keeps n role (with_worker part worker)
+kept_by : (n : ℕ) (role : Role) (part : PartState) (answer : Option Refusal) (worker : WorkerState) (left_out : Known → Option Move) → ((known : Known) (m : Move) → left_out known ≡ Some m → (0 < known.cost) × (m ≡ opposite known.via)) → IsRole n role → Keeps n role part → ExpandStepBy (λ known. moves_but (left_out known)) role (turn part.worker answer worker) → Keeps n role (part_with_worker part worker)
 kept_by n role part answer worker left_out back is keeps step =
-    ⊎_elim (λ (out : IsLeft (turn part.worker answer worker)). subst (λ x. Keeps n role (with_worker part x)) (sym out.1.1) keeps)
+    ⊎_elim (λ (out : IsLeft (turn part.worker answer worker)). subst (λ x. Keeps n role (part_with_worker part x)) (sym out.1.1) keeps)
     (λ (done : (answer ≡ None) × ExpandsBy (λ known. moves_but (left_out known)) role part.worker worker).
     let s = done.1 in
-    subst (λ x. Keeps n role (with_worker part x)) (sym s.is)
+    subst (λ x. Keeps n role (part_with_worker part x)) (sym s.is)
     (expanded_kept n role part is keeps s.board s.known s.next.opens (left_out s.known) (back s.known) s.busy (expanded_low role.task part.worker s.board s.known s.busy s.next) s.room))
     (expand_cases_by (λ known. moves_but (left_out known)) role (turn part.worker answer worker) step)
 
@@ -328,7 +328,7 @@ module _ (n : ℕ) (role : Role) (part : PartState) (is : IsRole n role) (keeps 
   settled_not_resting : (worker : WorkerState) → worker.purse ≡ part.worker.purse → worker.purse ≡ 0 → IsIdle role.task worker (limit_of worker.best) worker.best
   settled_not_resting worker same none = absurd (none_in_empty part.worker.held last (keeps.resting (sym same ∙ none)).holds_nothing last_held)
 
-  dropped_kept : (IsItemFor role.task role.owner role.me last → ⊥) → Keeps n role (with_worker part (record part.worker { held = front }))
+  dropped_kept : (IsItemFor role.task role.owner role.me last → ⊥) → Keeps n role (part_with_worker part (record part.worker { held = front }))
   dropped_kept foreign = worker_kept role part (record part.worker { held = front })
       (record { lower = λ b known knows. (known, knows, omega arith); unsent = λ to item has. has })
       n is keeps
@@ -362,10 +362,10 @@ module _ (n : ℕ) (role : Role) (part : PartState) (is : IsRole n role) (keeps 
         ⊎_elim (λ same. (known, same ∙ knows, omega arith)) (λ new. (entry last, new.1, new.2 known knows))
         (lowered_by (map.get part.worker.known (search_key last.board)) part.worker.known last refl (search_key b))
 
-    last_founded : IsFounded role (with_worker part settled) last.board (entry last)
+    last_founded : IsFounded role (part_with_worker part settled) last.board (entry last)
     last_founded = record { origin = inr (last, keeps.held last last_held, refl, refl, refl); closed = λ closed. absurd (true≢false (sym closed)) }
 
-    settled_founded : (b : BoardModel) (known : Known) → IsTaskBoard role.task b → KnowsAs settled b known → KnowsAs part.worker b known ⊎ IsFounded role (with_worker part settled) b known
+    settled_founded : (b : BoardModel) (known : Known) → IsTaskBoard role.task b → KnowsAs settled b known → KnowsAs part.worker b known ⊎ IsFounded role (part_with_worker part settled) b known
     unfolding settled
     settled_founded b known board knows =
         ⊎_elim (λ same. inl (sym same ∙ knows))
@@ -373,14 +373,14 @@ module _ (n : ℕ) (role : Role) (part : PartState) (is : IsRole n role) (keeps 
         let e : Some known ≡ Some (entry last) = sym knows ∙ new.1 in
         let as_last : known ≡ entry last = cc in
         let there = same_search_key role.task b last.board board mine.0 new.0 in
-        inr (subst (λ (x : BoardModel × Known). IsFounded role (with_worker part settled) x.0 x.1) (λ t. (sym there t, sym as_last t)) last_founded))
+        inr (subst (λ (x : BoardModel × Known). IsFounded role (part_with_worker part settled) x.0 x.1) (λ t. (sym there t, sym as_last t)) last_founded))
         (lowered_by (map.get part.worker.known (search_key last.board)) part.worker.known last refl (search_key b))
 
     last_known : KnowsAtMost settled last.board last.cost
     unfolding settled
     last_known = lowered_there (map.get part.worker.known (search_key last.board)) part.worker.known last refl
 
-    settled_kept : Keeps n role (with_worker part (record part.worker { held = front; known = relaxation part.worker.known last }))
+    settled_kept : Keeps n role (part_with_worker part (record part.worker { held = front; known = relaxation part.worker.known last }))
     unfolding settled
     settled_kept = worker_kept role part settled
         (record { lower = settled_lower; unsent = λ to item has. has })
@@ -397,11 +397,11 @@ module _ (n : ℕ) (role : Role) (part : PartState) (is : IsRole n role) (keeps 
 
 pub settling_kept : SettlingIsKept
 settling_kept n role part answer worker is keeps own step =
-    ⊎_elim (λ (out : IsLeft (turn part.worker answer worker)). subst (λ x. Keeps n role (with_worker part x)) (sym out.1.1) keeps)
+    ⊎_elim (λ (out : IsLeft (turn part.worker answer worker)). subst (λ x. Keeps n role (part_with_worker part x)) (sym out.1.1) keeps)
     (λ (done : (answer ≡ None) × Settles part.worker worker).
     let s = done.1 in
-    subst (λ x. Keeps n role (with_worker part x)) (sym s.is) (settled_kept n role part is keeps s.front s.last s.held (own s.front s.last s.held)))
+    subst (λ x. Keeps n role (part_with_worker part x)) (sym s.is) (settled_kept n role part is keeps s.front s.last s.held (own s.front s.last s.held)))
     (settle_cases (turn part.worker answer worker) step)
 
 pub dropping_kept : DroppingIsKept
-dropping_kept n role part worker is keeps (front, last, held, foreign, new) = subst (λ x. Keeps n role (with_worker part x)) (sym new) (dropped_kept n role part is keeps front last held foreign)
+dropping_kept n role part worker is keeps (front, last, held, foreign, new) = subst (λ x. Keeps n role (part_with_worker part x)) (sym new) (dropped_kept n role part is keeps front last held foreign)

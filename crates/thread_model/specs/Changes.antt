@@ -13,8 +13,8 @@ use Rattle.world_model.specs.Shapes.{IsItemFor}
 use Rattle.thread_model.specs.Parts.{PartState}
 
 -- the part with another worker
-abbrev pub with_worker : PartState → WorkerState → PartState
-with_worker part worker = record part { worker = worker }
+abbrev pub part_with_worker : PartState → WorkerState → PartState
+part_with_worker part worker = record part { worker = worker }
 
 -- the lanes with a packet more at the end of one
 abbrev pub with_packet : List Lane → ℕ → Packet → List Lane
@@ -51,14 +51,14 @@ abbrev pub StepsAlone : Role → PartState → PartState → Type 0
 StepsAlone role part part' =
     (answer : Option Refusal) × (worker : WorkerState)
     × (ExpandStep role (turn part.worker answer worker) ⊎ SettleStep (turn part.worker answer worker))
-    × (part' ≡ with_worker part worker)
+    × (part' ≡ part_with_worker part worker)
 
 -- the worker takes a step on the book
 abbrev pub StepsAtBook : Role → PartState → PartState → Type 0
 StepsAtBook role part part' =
     (answer : Option Refusal) × (worker : WorkerState) × (book book' : BookState)
     × IsBookStep role (turn (record { worker = part.worker; book = book }) answer (record { worker = worker; book = book' }))
-    × (part' ≡ with_worker part worker)
+    × (part' ≡ part_with_worker part worker)
 
 -- the worker takes a step by itself or on the book, or a packet goes to a worker or comes from one
 abbrev pub IsPartStep : Role → PartState → PartState → Type 0

@@ -18,7 +18,7 @@ use Rattle.world_model.specs.Credit.{IsCredited, packet_count}
 use Rattle.world_model.specs.Frontiers.{IsInFrontier, IsReached}
 use Rattle.world_model.specs.Quiet.{IsQuiet}
 use Rattle.thread_model.specs.Parts.{PartState, IsRole, Keeps}
-use Rattle.thread_model.specs.Changes.{with_worker, DropStep, HoldsOwnLast, Sends, Receives, IsBookStep, IsPartStep, opening_part}
+use Rattle.thread_model.specs.Changes.{part_with_worker, DropStep, HoldsOwnLast, Sends, Receives, IsBookStep, IsPartStep, opening_part}
 use Rattle.thread_model.specs.Joined.{Shared, role_in, AreParts, world_with, IsOfParts, opening_parts}
 
 -- a part whose worker expands a board, by all moves or by all but the one back, keeps what it keeps
@@ -28,7 +28,7 @@ ExpandingIsKept =
     → IsRole n role
     → Keeps n role part
     → ExpandStep role (turn part.worker answer worker) ⊎ ExpandOnwardStep role (turn part.worker answer worker)
-    → Keeps n role (with_worker part worker)
+    → Keeps n role (part_with_worker part worker)
 
 -- so does one that settles an item which is its own
 abbrev pub SettlingIsKept : Type 0
@@ -38,7 +38,7 @@ SettlingIsKept =
     → Keeps n role part
     → HoldsOwnLast role part.worker
     → SettleStep (turn part.worker answer worker)
-    → Keeps n role (with_worker part worker)
+    → Keeps n role (part_with_worker part worker)
 
 -- and one that drops a foreign one
 abbrev pub DroppingIsKept : Type 0
@@ -47,7 +47,7 @@ DroppingIsKept =
     → IsRole n role
     → Keeps n role part
     → DropStep role part.worker worker
-    → Keeps n role (with_worker part worker)
+    → Keeps n role (part_with_worker part worker)
 
 -- and one that sends a packet to one of the workers
 abbrev pub SendingIsKept : Type 0
@@ -67,7 +67,7 @@ BookStepsAreKept =
     → Keeps n role part
     → part.worker.purse ≢ 0
     → IsBookStep role (turn (record { worker = part.worker; book = book }) answer (record { worker = worker; book = book' }))
-    → Keeps n role (with_worker part worker)
+    → Keeps n role (part_with_worker part worker)
 
 -- a part with which a run begins keeps that: the start's owner knows the start, and the others know nothing
 abbrev pub OpeningsAreKept : Type 0

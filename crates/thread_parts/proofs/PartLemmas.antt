@@ -20,7 +20,7 @@ use Rattle.world_model.specs.declared.parts.Known.{Known}
 use Rattle.world_model.specs.Knowledge.{Knowledge, is_news, relaxation}
 use Rattle.world_model.specs.Openings.{idle_worker, first_worker}
 use Rattle.world_model.specs.Shapes.{IsTask}
-use Rattle.thread_model.specs.Changes.{with_packet, Sends, Receives, with_worker, opening_part}
+use Rattle.thread_model.specs.Changes.{with_packet, Sends, Receives, part_with_worker, opening_part}
 use Rattle.thread_model.specs.Parts.{PartState, IsRole, Keeps}
 use Rattle.thread_model.specs.Laws.{SettlingIsKept, DroppingIsKept, OpeningsAreKept}
 use Rattle.search_lists.specs.Lists.{SearchListsModel}
@@ -35,7 +35,7 @@ use Rattle.worker_core.specs.Settling.{SettleOrDrop}
 use Rattle.rings.specs.Rings.{SenderModel, ReceiverModel, TakesIn, GivesOut, Looks, sent_lanes, received_lanes, left_lanes}
 use Rattle.hda_run.specs.Jobs.{JobModel, context_in, task_in}
 use Rattle.thread_parts.specs.declared.part.Part.{Part}
-use Rattle.thread_parts.specs.Parts.{ChangesItsWorker, face_of, IsSoundPart, IsFaceKept, part_state, role_of}
+use Rattle.thread_parts.specs.Parts.{ChangesItsWorker, face_of, IsSoundPart, IsFaceKept, part_state, role_of_part}
 use Rattle.thread_parts.specs.Steps.{SendByRing, DeliverByRing, WithPurse, IsBarred}
 use Rattle.thread_parts.specs.Parts.{with_means}
 use Rattle.std.specs.Vec.{with_item}
@@ -77,7 +77,7 @@ module _ {S C D E K G : Type 0} (owner_of : S → ℕ → BoardModel → ℕ) (n
       guided = (part.job.now.start, guide_of (task_in part.job.now), holds.guided);
     })
 
-    pub role_is : role_from owner_of part.job.now.start context ≡ role_of owner_of n part
+    pub role_is : role_from owner_of part.job.now.start context ≡ role_of_part owner_of n part
     role_is = ap (role_from owner_of part.job.now.start) lent ∙ (λ t. role_by (task_in part.job.now) (owner_of part.owners.now) ((all ∙ unsent_count) t) part.me)
 
     pub guided_after : (worker : Worker C D E K G) → StaysGuided context part.worker.lists worker.lists → IsGuided (task_in part.job.now) (guide_of (task_in part.job.now)) worker.lists
@@ -85,7 +85,7 @@ module _ {S C D E K G : Type 0} (owner_of : S → ℕ → BoardModel → ℕ) (n
         subst (λ (x : ContextModel S). StaysGuided x part.worker.lists worker.lists) lent stays part.job.now.start (guide_of (task_in part.job.now)) holds.guided
 
   -- a part that has another worker, which keeps what it should
-  pub with_kept : (worker : Worker C D E K G) → Keeps n (role_of owner_of n part) (with_worker (part_state part) (state_of worker)) → IsGuided (task_in part.job.now) (guide_of (task_in part.job.now)) worker.lists → ChangesItsWorker owner_of n part (record part { worker = worker })
+  pub with_kept : (worker : Worker C D E K G) → Keeps n (role_of_part owner_of n part) (part_with_worker (part_state part) (state_of worker)) → IsGuided (task_in part.job.now) (guide_of (task_in part.job.now)) worker.lists → ChangesItsWorker owner_of n part (record part { worker = worker })
   with_kept worker keeps guided = record { rest = refl; holds = record { role = holds.role; keeps = keeps; guided = guided }; kept = refl }
 
   -- lists that are the same are guided too
@@ -93,7 +93,7 @@ module _ {S C D E K G : Type 0} (owner_of : S → ℕ → BoardModel → ℕ) (n
   same_guided worker same = subst (λ (lists : SearchListsModel). IsGuided (task_in part.job.now) (guide_of (task_in part.job.now)) lists) (sym same) holds.guided
 
   -- a part with another worker and other ends, which keeps what it should, holds, where the worker's lists are the same
-  pub holds_after : (part' : Part S C D E K G) → role_of owner_of n part' ≡ role_of owner_of n part → part'.job.now ≡ part.job.now → Keeps n (role_of owner_of n part) (part_state part') → part'.worker.lists ≡ part.worker.lists → IsSoundPart owner_of n part'
+  pub holds_after : (part' : Part S C D E K G) → role_of_part owner_of n part' ≡ role_of_part owner_of n part → part'.job.now ≡ part.job.now → Keeps n (role_of_part owner_of n part) (part_state part') → part'.worker.lists ≡ part.worker.lists → IsSoundPart owner_of n part'
   holds_after part' same job keeps lists = record {
     role = subst (IsRole n) (sym same) holds.role;
     keeps = subst (λ (role : Role). Keeps n role (part_state part')) (sym same) keeps;
@@ -103,7 +103,7 @@ module _ {S C D E K G : Type 0} (owner_of : S → ℕ → BoardModel → ℕ) (n
 -- ---- the steps of a part, as its laws have them: the last item held
 
 -- the part keeps what it keeps, whether the item is dropped or its board is relaxed
-pub settled_kept : SettlingIsKept → DroppingIsKept → (n : ℕ) (role : Role) (part : PartState) (answer : Option Refusal) (worker : WorkerState) → IsRole n role → Keeps n role part → SettleOrDrop role (turn part.worker answer worker) → Keeps n role (with_worker part worker)
+pub settled_kept : SettlingIsKept → DroppingIsKept → (n : ℕ) (role : Role) (part : PartState) (answer : Option Refusal) (worker : WorkerState) → IsRole n role → Keeps n role part → SettleOrDrop role (turn part.worker answer worker) → Keeps n role (part_with_worker part worker)
 settled_kept settling dropping n role part answer worker is keeps (inl own) = settling n role part answer worker is keeps own.0 own.1
 settled_kept settling dropping n role part answer worker is keeps (inr dropped) = dropping n role part worker is keeps dropped.1
 
@@ -148,7 +148,7 @@ first_is n task purse allowance worker state item free board begun is =
 -- ---- what the part keeps
 
 -- with another purse, and another allowance, it keeps that; only an empty purse asks for a worker at rest
-pub kept_with_means : (n : ℕ) (role : Role) (part : PartState) (purse : ℕ) (allowance : AllowanceModel) → (purse ≡ 0 → part.worker.purse ≡ 0) → Keeps n role part → Keeps n role (with_worker part (with_means purse allowance part.worker))
+pub kept_with_means : (n : ℕ) (role : Role) (part : PartState) (purse : ℕ) (allowance : AllowanceModel) → (purse ≡ 0 → part.worker.purse ≡ 0) → Keeps n role part → Keeps n role (part_with_worker part (with_means purse allowance part.worker))
 kept_with_means n role part purse allowance still keeps = record {
   shaped = record { known = keeps.shaped.known; held = keeps.shaped.held; lists = keeps.shaped.lists; unsent = keeps.shaped.unsent };
   few_held = keeps.few_held;
@@ -189,12 +189,12 @@ begins owner_of owners task n me purse allowance part law is sent received some 
       let via = (first own.1).0 in
       let opened = opening_part n (first_worker n task via) in
       let role = role_by task (owner_of owners) n me in
-      let same : with_worker opened (with_means purse allowance opened.worker) ≡ part = λ t. record { worker = sym (first own.1).1 t; sent = sym sent t; received = sym received t } in
+      let same : part_with_worker opened (with_means purse allowance opened.worker) ≡ part = λ t. record { worker = sym (first own.1).1 t; sent = sym sent t; received = sym received t } in
       subst (Keeps n role) same (kept_with_means n role opened purse allowance (λ none. let rich = some own.1 in absurd (omega (arith, rich, none))) ((law n role is).1 via own.1)))
   | inr foreign ↦ (
       let opened = opening_part n (idle_worker n) in
       let role = role_by task (owner_of owners) n me in
-      let same : with_worker opened (with_means purse allowance opened.worker) ≡ part = λ t. record { worker = sym (idle foreign.1) t; sent = sym sent t; received = sym received t } in
+      let same : part_with_worker opened (with_means purse allowance opened.worker) ≡ part = λ t. record { worker = sym (idle foreign.1) t; sent = sym sent t; received = sym received t } in
       subst (Keeps n role) same (kept_with_means n role opened purse allowance (λ none. refl) ((law n role is).0 foreign.1)))
 ]
 

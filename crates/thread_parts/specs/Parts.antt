@@ -2,7 +2,7 @@
 use Rattle.std.specs.Prelude.{ℕ, ◌≡◌, List}
 use Rattle.board.specs.Boards.{BoardModel}
 use Rattle.rings.specs.Rings.{Ring, out_rings, in_rings, sent_lanes, received_lanes}
-use Rattle.thread_model.specs.Changes.{with_worker}
+use Rattle.thread_model.specs.Changes.{part_with_worker}
 use Rattle.thread_model.specs.Parts.{PartState, IsRole, Keeps}
 use Rattle.world_model.specs.Workers.{Role, WorkerState}
 use Rattle.worker_core.specs.Expanding.{role_by}
@@ -37,13 +37,13 @@ module _ {S C D E K G : Type 0} where
   part_state part = record { worker = state_of part.worker; sent = sent_lanes part.outs.items; received = received_lanes part.ins.items }
 
   -- the role of its worker among n, where boards have these owners, by the spread and n
-  abbrev pub role_of : (S → ℕ → BoardModel → ℕ) → ℕ → Part S C D E K G → Role
-  role_of owner_of n part = role_by (task_in part.job.now) (owner_of part.owners.now) n part.me
+  abbrev pub role_of_part : (S → ℕ → BoardModel → ℕ) → ℕ → Part S C D E K G → Role
+  role_of_part owner_of n part = role_by (task_in part.job.now) (owner_of part.owners.now) n part.me
 
   -- What a part of n keeps, whatever the others do. Its worker's lists are guided to the goal.
   pub record IsSoundPart (owner_of : S → ℕ → BoardModel → ℕ) (n : ℕ) (part : Part S C D E K G) : Type 0 where
-    pub role : IsRole n (role_of owner_of n part)
-    pub keeps : Keeps n (role_of owner_of n part) (part_state part)
+    pub role : IsRole n (role_of_part owner_of n part)
+    pub keeps : Keeps n (role_of_part owner_of n part) (part_state part)
     pub guided : IsGuided (task_in part.job.now) (guide_of (task_in part.job.now)) part.worker.lists
 
   -- a part of n has its face still, and keeps what it kept
@@ -53,7 +53,7 @@ module _ {S C D E K G : Type 0} where
 
   -- the same, and nothing but its worker has changed
   pub record ChangesItsWorker (owner_of : S → ℕ → BoardModel → ℕ) (n : ℕ) (old new : Part S C D E K G) : Type 0 where
-    pub rest : part_state new ≡ with_worker (part_state old) (state_of new.worker)
+    pub rest : part_state new ≡ part_with_worker (part_state old) (state_of new.worker)
     pub holds : IsSoundPart owner_of n new
     pub kept : IsFaceKept old new
 

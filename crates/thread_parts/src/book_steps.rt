@@ -9,7 +9,7 @@ ghost use Rattle.world_model.specs.BookSteps.{DrawStep, AnnounceStep, GrantStep,
 ghost use Rattle.world_model.specs.BookSteps.{HaltStep};
 ghost use Rattle.world_model.specs.Turns.{turn, refusal_in};
 ghost use Rattle.worker_core.specs.Workers.{state_of, with_book};
-ghost use Rattle.thread_parts.specs.Parts.{role_of, IsSoundPart, ChangesItsWorker};
+ghost use Rattle.thread_parts.specs.Parts.{role_of_part, IsSoundPart, ChangesItsWorker};
 ghost use Rattle.thread_parts.specs.Steps.{WithPurse, IsBarred};
 
 use crate::part::Part;
@@ -40,7 +40,7 @@ impl<'a, S: Spread, C: Tokens> Part<'a, S, C> {
     /// the best.
     pub fn announce(&mut self, book: &mut Book<C>) -> Result<(), Refusal>
         requires { IsSoundPart S.owner_of C.workers self.old }
-        ensures step { WithPurse (AnnounceStep (role_of S.owner_of C.workers self.old))
+        ensures step { WithPurse (AnnounceStep (role_of_part S.owner_of C.workers self.old))
             (turn (with_book (state_of self.old.worker) book.old)
             (refusal_in result) (with_book (state_of self.new.worker) book.new)) }
         ensures part { ChangesItsWorker S.owner_of C.workers self.old self.new }
@@ -59,7 +59,7 @@ impl<'a, S: Spread, C: Tokens> Part<'a, S, C> {
     /// may be expanded below the limit, S14 allowance is left, S2 all of the limit is granted.
     pub fn grant(&mut self, book: &mut Book<C>) -> Result<(), Refusal>
         requires { IsSoundPart S.owner_of C.workers self.old }
-        ensures step { WithPurse (GrantStep (role_of S.owner_of C.workers self.old))
+        ensures step { WithPurse (GrantStep (role_of_part S.owner_of C.workers self.old))
             (turn (with_book (state_of self.old.worker) book.old)
             (refusal_in result) (with_book (state_of self.new.worker) book.new)) }
         ensures part { ChangesItsWorker S.owner_of C.workers self.old self.new }
@@ -75,7 +75,7 @@ impl<'a, S: Spread, C: Tokens> Part<'a, S, C> {
     /// something is held or unsent, a better goal is known, or a board may be expanded.
     pub fn rest(&mut self, book: &mut Book<C>) -> Result<Rested, Refusal>
         requires { IsSoundPart S.owner_of C.workers self.old }
-        ensures step { RestStep (role_of S.owner_of C.workers self.old)
+        ensures step { RestStep (role_of_part S.owner_of C.workers self.old)
             (turn (with_book (state_of self.old.worker) book.old)
             (refusal_in result) (with_book (state_of self.new.worker) book.new)) }
         ensures answer { IfOk result (λ answer. answer ≡ rested book.new) }

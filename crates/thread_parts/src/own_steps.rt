@@ -5,7 +5,7 @@ ghost use Rattle.world_model.specs.Turns.{turn, refusal_in};
 ghost use Rattle.world_model.specs.WorkerSteps.{ExpandOnwardStep};
 ghost use Rattle.worker_core.specs.Settling.{SettleOrDrop};
 ghost use Rattle.worker_core.specs.Workers.{state_of};
-ghost use Rattle.thread_parts.specs.Parts.{role_of, IsSoundPart, ChangesItsWorker};
+ghost use Rattle.thread_parts.specs.Parts.{role_of_part, IsSoundPart, ChangesItsWorker};
 
 use crate::part::Part;
 use message_ledger::Tokens;
@@ -22,7 +22,7 @@ impl<'a, S: Spread, C: Tokens> Part<'a, S, C> {
     /// refused.
     pub fn expand(&mut self, alloc: Global) -> Result<(), Refusal>
         requires { IsSoundPart S.owner_of C.workers self.old }
-        ensures step { ExpandOnwardStep (role_of S.owner_of C.workers self.old)
+        ensures step { ExpandOnwardStep (role_of_part S.owner_of C.workers self.old)
             (turn (state_of self.old.worker) (refusal_in result) (state_of self.new.worker)) }
         ensures part { ChangesItsWorker S.owner_of C.workers self.old self.new }
     {
@@ -36,7 +36,7 @@ impl<'a, S: Spread, C: Tokens> Part<'a, S, C> {
     /// Refusals: S13 nothing is held, S8 memory was refused.
     pub fn settle(&mut self, alloc: Global) -> Result<(), Refusal>
         requires { IsSoundPart S.owner_of C.workers self.old }
-        ensures step { SettleOrDrop (role_of S.owner_of C.workers self.old)
+        ensures step { SettleOrDrop (role_of_part S.owner_of C.workers self.old)
             (turn (state_of self.old.worker) (refusal_in result) (state_of self.new.worker)) }
         ensures part { ChangesItsWorker S.owner_of C.workers self.old self.new }
     {

@@ -18,8 +18,8 @@ use Rattle.world_ends.specs.declared.asked.Snapshot.{Snapshot}
 use Rattle.world_ends.specs.Lowest.{IsLowestInLanes}
 
 -- the task that was asked
-abbrev pub task_in : Asked → Task
-task_in asked = task_of asked.start asked.goal asked.weights asked.bound.now
+abbrev pub task_asked : Asked → Task
+task_asked asked = task_of asked.start asked.goal asked.weights asked.bound.now
 
 -- workers, as worlds have them
 abbrev pub states_of : {C D S K G : Type 0} → List (Worker C D S K G) → List WorkerState
@@ -41,13 +41,13 @@ pub record HasParts (task : Task) (owner_among : ℕ → BoardModel → ℕ) (st
 pub record AreOfWorld {C D S K G : Type 0} (asked : Asked) (owner_among : ℕ → BoardModel → ℕ) (workers : List (Worker C D S K G)) : Type 0 where
   pub sides : asked.bound.now.split.grid ≡ asked.goal.grid
   pub guide : Guide
-  pub guided : AreWorkersGuided (task_in asked) guide workers
+  pub guided : AreWorkersGuided (task_asked asked) guide workers
   pub world : WorldState
-  pub parts : HasParts (task_in asked) owner_among (states_of workers) world
+  pub parts : HasParts (task_asked asked) owner_among (states_of workers) world
 
 -- the world has these workers, and beside them is as the snapshot says
 pub record IsSeen {C D S K G : Type 0} (asked : Asked) (owner_among : ℕ → BoardModel → ℕ) (workers : List (Worker C D S K G)) (snapshot : Snapshot) (w : WorldState) : Type 0 where
-  pub parts : HasParts (task_in asked) owner_among (states_of workers) w
+  pub parts : HasParts (task_asked asked) owner_among (states_of workers) w
   pub lanes : IsLowestInLanes w snapshot.lanes
   pub stop : w.book.stop ≡ snapshot.stop
 

@@ -8,7 +8,7 @@ ghost use Rattle.world_model.specs.Costs.{lesser};
 ghost use Rattle.world_model.specs.Workers.{WorkerState};
 ghost use Rattle.worker_core.specs.Roles.{IsGuided};
 ghost use Rattle.worker_core.specs.Workers.{state_of};
-ghost use Rattle.world_ends.specs.Parts.{task_in, states_of, AreWorkersGuided};
+ghost use Rattle.world_ends.specs.Parts.{task_asked, states_of, AreWorkersGuided};
 ghost use Rattle.world_ends.specs.Lowest.{IsLeastBeside, IsOfItem, IsOfUnsent, IsOfWorker};
 ghost use Rattle.world_ends.specs.Lowest.{IsOfWorkers, AreItemsOn, HasItemsOn};
 
@@ -52,8 +52,8 @@ pub(crate) fn lowest_of_workers<C: Counting>(
 ) -> Option<u32>
     requires items { (i : ℕ) (worker : WorkerState) → slice_get (states_of workers.old) i ≡ Some worker
         → HasItemsOn asked.now.bound.now.split.grid worker }
-    ensures least { (guide : Guide) → AreWorkersGuided (task_in asked.now) guide workers.old
-        → IsLeastBeside (IsOfWorkers (task_in asked.now) (states_of workers.old)) lowest result }
+    ensures least { (guide : Guide) → AreWorkersGuided (task_asked asked.now) guide workers.old
+        → IsLeastBeside (IsOfWorkers (task_asked asked.now) (states_of workers.old)) lowest result }
     ensures same { states_of workers.new ≡ states_of workers.old }
 {
     let mut least = lowest;
@@ -70,11 +70,11 @@ fn lowest_of_worker<C: Counting>(
     lowest: Option<u32>,
 ) -> Option<u32>
     requires items { HasItemsOn asked.now.bound.now.split.grid (state_of worker.old) }
-    ensures least { (guide : Guide) → IsGuided (task_in asked.now) guide worker.old.lists
-        → IsLeastBeside (IsOfWorker (task_in asked.now) (state_of worker.old)) lowest result }
+    ensures least { (guide : Guide) → IsGuided (task_asked asked.now) guide worker.old.lists
+        → IsLeastBeside (IsOfWorker (task_asked asked.now) (state_of worker.old)) lowest result }
     ensures same { state_of worker.new ≡ state_of worker.old }
-    ensures guided { (guide : Guide) → IsGuided (task_in asked.now) guide worker.old.lists
-        → IsGuided (task_in asked.now) guide worker.new.lists }
+    ensures guided { (guide : Guide) → IsGuided (task_asked asked.now) guide worker.old.lists
+        → IsGuided (task_asked asked.now) guide worker.new.lists }
 {
     let floor = worker.floor();
     let least = lesser(floor, lowest);

@@ -6,7 +6,7 @@ ghost use Rattle.outcomes.specs.declared.outcome.Want.TheVariants.{Refused};
 ghost use Rattle.outcomes.specs.declared.outcome.Outcome.TheVariants.{Bounded};
 ghost use Rattle.world_model.specs.Outcomes.{IsGiven, cause_of};
 ghost use Rattle.world_model.specs.Worlds.{WorldState};
-ghost use Rattle.world_ends.specs.Parts.{task_in, states_of, AreOfWorld, HasParts, IsSeen};
+ghost use Rattle.world_ends.specs.Parts.{task_asked, states_of, AreOfWorld, HasParts, IsSeen};
 ghost use Rattle.world_ends.specs.Lowest.{IsLowestInLanes};
 ghost use Rattle.world_ends.specs.Endings.{EndsIn, EndsWhole, HasPlanAbove};
 
@@ -114,7 +114,7 @@ fn whole_ending<C: Counting, S: Spread>(
         → IsSeen asked.now (S.owner_of owners.now) workers.old snapshot w
         → EndsWhole w ending) }
     ensures lacking { IfErr result (λ lacking. (w : WorldState)
-        → HasParts (task_in asked.now) (S.owner_of owners.now) (states_of workers.old) w
+        → HasParts (task_asked asked.now) (S.owner_of owners.now) (states_of workers.old) w
         → IsLowestInLanes w snapshot.lanes → HasPlanAbove w lacking.bound) }
     ensures same { states_of workers.new ≡ states_of workers.old }
 {

@@ -4,7 +4,7 @@ ghost use Rattle.std.specs.Prelude.{ℕ, ◌≡◌, ◌<◌, ◌≤◌, Some, If
 ghost use Rattle.board.specs.Boards.{BoardModel};
 ghost use Rattle.world_model.specs.declared.parts.Known.{Known};
 ghost use Rattle.world_model.specs.Worlds.{WorldState};
-ghost use Rattle.world_ends.specs.Parts.{task_in, states_of, HasParts, known_in};
+ghost use Rattle.world_ends.specs.Parts.{task_asked, states_of, HasParts, known_in};
 ghost use Rattle.world_ends.specs.Plans.{IsPredecessor, IsTraced};
 
 use crate::asked::Asked;
@@ -51,10 +51,10 @@ pub(crate) fn plan_back<C: Counting, S: Spread>(
     reached: Known,
 ) -> Result<(u32, Vec<Move>), OutOfMemory>
     requires world { (w : WorldState)
-        × HasParts (task_in asked.now) (S.owner_of owners.now) (states_of workers.now) w }
+        × HasParts (task_asked asked.now) (S.owner_of owners.now) (states_of workers.now) w }
     requires found { known_in (S.owner_of owners.now) (states_of workers.now) asked.now.goal
         ≡ Some reached }
-    ensures { IfOk result (λ found. IsTraced (task_in asked.now) (S.owner_of owners.now)
+    ensures { IfOk result (λ found. IsTraced (task_asked asked.now) (S.owner_of owners.now)
         (states_of workers.now) reached.cost found.0 found.1.items) }
 {
     let mut backwards = Vec::new(alloc);
@@ -84,9 +84,9 @@ fn step_back<C: Counting, S: Spread>(
     requires some { 0 < length workers.now }
     requires costs { asked.now.weights.grid ≡ board.now.grid }
     requires reached { (before : BoardModel) × (cost : ℕ) × (there : Known)
-        × IsPredecessor (task_in asked.now) (S.owner_of owners.now) (states_of workers.now)
+        × IsPredecessor (task_asked asked.now) (S.owner_of owners.now) (states_of workers.now)
         board.now here before cost there }
-    ensures before { IsPredecessor (task_in asked.now) (S.owner_of owners.now) (states_of workers.now)
+    ensures before { IsPredecessor (task_asked asked.now) (S.owner_of owners.now) (states_of workers.now)
         board.now here result.0 result.1 result.2 }
     ensures low { 1 ≤ result.1 }
 {

@@ -9,7 +9,7 @@ ghost use Rattle.lower_bound.specs.Bounds.{sum_of};
 ghost use Rattle.lower_bound.specs.Tables.{parts_of};
 ghost use Rattle.world_model.specs.Outcomes.{AreRowsFor};
 ghost use Rattle.world_model.specs.Worlds.{WorldState};
-ghost use Rattle.world_ends.specs.Parts.{task_in, states_of, HasParts};
+ghost use Rattle.world_ends.specs.Parts.{task_asked, states_of, HasParts};
 ghost use Rattle.world_ends.specs.Rows.{IsRowIn, HaveDifferentKeys, IsOfBoards, AreElsewhere};
 ghost use Rattle.world_ends.specs.Rows.{AreKeyedRows, AreBoardsOf, keyed};
 ghost use Rattle.world_ends.specs.declared.rows.KeyedRow.{KeyedRow};
@@ -41,9 +41,9 @@ pub fn rows_for<C: Counting>(
 ) -> Result<Vec<(Board, u32)>, OutOfMemory>
     requires sides { asked.now.bound.now.split.grid ≡ asked.now.goal.grid }
     requires world { (owner_among : ℕ → BoardModel → ℕ) × (w : WorldState)
-        × HasParts (task_in asked.now) owner_among (states_of workers.now) w }
+        × HasParts (task_asked asked.now) owner_among (states_of workers.now) w }
     ensures rows { IfOk result (λ rows. (owner_among : ℕ → BoardModel → ℕ) (w : WorldState)
-        → HasParts (task_in asked.now) owner_among (states_of workers.now) w
+        → HasParts (task_asked asked.now) owner_among (states_of workers.now) w
         → AreRowsFor w cost rows.items) }
     ensures free { cost ≤ sum_of (parts_of asked.now.bound.now) asked.now.start → IsOk result }
 {
@@ -64,8 +64,8 @@ fn keyed_rows<C: Counting>(
 ) -> Result<Vec<KeyedRow>, OutOfMemory>
     requires sides { asked.now.bound.now.split.grid ≡ asked.now.goal.grid }
     requires world { (owner_among : ℕ → BoardModel → ℕ) × (w : WorldState)
-        × HasParts (task_in asked.now) owner_among (states_of workers.now) w }
-    ensures { IfOk result (λ rows. AreKeyedRows (task_in asked.now) cost (states_of workers.now)
+        × HasParts (task_asked asked.now) owner_among (states_of workers.now) w }
+    ensures { IfOk result (λ rows. AreKeyedRows (task_asked asked.now) cost (states_of workers.now)
         rows.items) }
 {
     let mut rows = Vec::new(alloc);
@@ -90,7 +90,7 @@ fn add_rows(
     ensures apart { OnOk result (HaveDifferentKeys rows.new.items) }
     ensures each { OnOk result ((row : KeyedRow) → Contains rows.new.items row
         ↔ (Contains rows.old.items row
-        ⊎ IsRowIn (task_in asked.now) cost lists.now.closed.known row)) }
+        ⊎ IsRowIn (task_asked asked.now) cost lists.now.closed.known row)) }
 {
     'boards: for place in 0..lists.len() {
         let (key, known) = lists.at(place);

@@ -21,7 +21,7 @@ use Rattle.world_model.specs.Costs.{IsNotBelow, limit_of}
 use Rattle.world_model.specs.Expansions.{expansion, successor_items, with_closure}
 use Rattle.world_model.specs.Knowledge.{relaxation}
 use Rattle.world_model.specs.StepLaws.{BooksAreLeft, FloorsAreHigh, HasHighFloors, LanesAreLeft, LeastIsExpanded, MemoryIsLast, OthersAreLeft, RestsKeepTheFloor, RunsAreJoined, RunsAreOfSteps, UsesBook, UsesLane, worker_of_step}
-use Rattle.world_model.specs.Steps.{ByWorker, Ends, IsRun, Next, OnBook, OnLane, from_to, with_worker}
+use Rattle.world_model.specs.Steps.{ByWorker, Ends, IsRun, Next, OnBook, OnLane, lane_ends, with_worker}
 use Rattle.world_model.specs.Turns.{Turn, turn}
 use Rattle.world_model.specs.WorkerSteps.{AtLane, DeliverStep, ExpandStep, SendStep, SettleStep}
 use Rattle.world_model.specs.Workers.{HasNothingBelow, IsFloor, IsNext, IsOpen, KnowsAs, Lane, Role, WorkerState}
@@ -147,8 +147,8 @@ taking both = ((λ a. (tt, both.0 a)), λ b. both.1 b.1)
 pub memory_last : MemoryIsLast
 memory_last (Expand i) w refused = taking (own_last i (ExpandStep (role_of w i)) (expand_last (role_of w i)) w refused)
 memory_last (Settle i) w refused = taking (own_last i SettleStep settle_last w refused)
-memory_last (Send i j) w refused = sober_last (OnLane i (from_to i j) (SendStep j)) (lane_sober i (from_to i j) (SendStep j) (send_sober j)) w refused
-memory_last (Deliver i j) w refused = sober_last (OnLane i (from_to j i) DeliverStep) (lane_sober i (from_to j i) DeliverStep deliver_sober) w refused
+memory_last (Send i j) w refused = sober_last (OnLane i (lane_ends i j) (SendStep j)) (lane_sober i (lane_ends i j) (SendStep j) (send_sober j)) w refused
+memory_last (Deliver i j) w refused = sober_last (OnLane i (lane_ends j i) DeliverStep) (lane_sober i (lane_ends j i) DeliverStep deliver_sober) w refused
 memory_last (Draw i) w refused = sober_last (OnBook i DrawStep) (book_sober i DrawStep draw_sober) w refused
 memory_last (Announce i) w refused = sober_last (OnBook i (AnnounceStep (role_of w i))) (book_sober i (AnnounceStep (role_of w i)) (announce_sober (role_of w i))) w refused
 memory_last (Grant i) w refused = sober_last (OnBook i (GrantStep (role_of w i))) (book_sober i (GrantStep (role_of w i)) (grant_sober (role_of w i))) w refused
@@ -219,8 +219,8 @@ floors_of at = at.book.floors
 accepts_others : (step : Step) (w w' : WorldState) → Accepts step w w' → LeavesOthers (worker_of_step step) w w'
 accepts_others (Expand i) w w' step = own_others w w' i _ step
 accepts_others (Settle i) w w' step = own_others w w' i _ step
-accepts_others (Send i j) w w' step = lane_others w w' i (from_to i j) _ step
-accepts_others (Deliver i j) w w' step = lane_others w w' i (from_to j i) _ step
+accepts_others (Send i j) w w' step = lane_others w w' i (lane_ends i j) _ step
+accepts_others (Deliver i j) w w' step = lane_others w w' i (lane_ends j i) _ step
 accepts_others (Draw i) w w' step = book_others w w' i Draws (λ x y h. ap floors_of h.is) step
 accepts_others (Announce i) w w' step = book_others w w' i (Announces (role_of w i)) (λ x y h. ap floors_of h.is) step
 accepts_others (Grant i) w w' step = book_others w w' i (Grants (role_of w i)) (λ x y h. ap floors_of h.is) step
@@ -263,8 +263,8 @@ lanes_of w = w.lanes
 accepts_lanes : (step : Step) (w w' : WorldState) → Accepts step w w' → (from to : ℕ) (lane : Lane) → ¬ UsesLane step from to → IsLane w from to lane ↔ IsLane w' from to lane
 accepts_lanes (Expand i) w w' step from to lane other = same_lanes_at w w' (ap lanes_of step.is) from to lane
 accepts_lanes (Settle i) w w' step from to lane other = same_lanes_at w w' (ap lanes_of step.is) from to lane
-accepts_lanes (Send i j) w w' step from to lane other = lane_step_at w w' i (from_to i j) _ step from to lane other
-accepts_lanes (Deliver i j) w w' step from to lane other = lane_step_at w w' i (from_to j i) _ step from to lane other
+accepts_lanes (Send i j) w w' step from to lane other = lane_step_at w w' i (lane_ends i j) _ step from to lane other
+accepts_lanes (Deliver i j) w w' step from to lane other = lane_step_at w w' i (lane_ends j i) _ step from to lane other
 accepts_lanes (Draw i) w w' step from to lane other = same_lanes_at w w' (ap lanes_of step.is) from to lane
 accepts_lanes (Announce i) w w' step from to lane other = same_lanes_at w w' (ap lanes_of step.is) from to lane
 accepts_lanes (Grant i) w w' step from to lane other = same_lanes_at w w' (ap lanes_of step.is) from to lane

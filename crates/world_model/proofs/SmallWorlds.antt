@@ -18,7 +18,7 @@ use Rattle.world_model.specs.BookSteps.{AnnounceStep, AtBook, DrawStep, GrantSte
 use Rattle.world_model.specs.Books.{BookState}
 use Rattle.world_model.specs.Expansions.{successor_items}
 use Rattle.world_model.specs.Shapes.{IsShaped, IsTask}
-use Rattle.world_model.specs.Steps.{ByWorker, Ends, IsRun, Next, OnBook, OnLane, from_to, with_lane}
+use Rattle.world_model.specs.Steps.{ByWorker, Ends, IsRun, Next, OnBook, OnLane, lane_ends, with_lane}
 use Rattle.world_model.specs.Turns.{Turn, turn}
 use Rattle.world_model.specs.WorkerSteps.{AtLane, DeliverStep, ExpandStep, SendStep, SettleStep}
 use Rattle.world_model.specs.Workers.{IsTaskBoard, Lane, Role, WorkerState, IsOpen}
@@ -220,8 +220,8 @@ module _ (task : Task) (owner : BoardModel → ℕ) where
   abbrev pub done_by : Step → SmallWorld → WorldDone
   done_by (Expand i) s = own_by s i (small_expand (role_at i)) (slice_get s.workers i)
   done_by (Settle i) s = own_by s i small_settle (slice_get s.workers i)
-  done_by (Send i j) s = lane_done s i (from_to i j) (small_send j)
-  done_by (Deliver i j) s = lane_done s i (from_to j i) small_deliver
+  done_by (Send i j) s = lane_done s i (lane_ends i j) (small_send j)
+  done_by (Deliver i j) s = lane_done s i (lane_ends j i) small_deliver
   done_by (Draw i) s = book_by s i small_draw (slice_get s.workers i)
   done_by (Announce i) s = book_by s i (small_announce (role_at i)) (slice_get s.workers i)
   done_by (Grant i) s = book_by s i (small_grant (role_at i)) (slice_get s.workers i)
@@ -232,8 +232,8 @@ module _ (task : Task) (owner : BoardModel → ℕ) where
     pub done_is : (step : Step) (s : SmallWorld) → IsShaped (world_of s) → AllBoards task s.workers → Next step (world_turn s (done_by step s))
     done_is (Expand i) s shaped boards = own_at s i (small_expand (role_at i)) (ExpandStep (role_at i)) (slice_get s.workers i) refl (λ x at. expand_is (role_at i) goal x (boards_at task s.workers i x boards at))
     done_is (Settle i) s shaped boards = own_at s i small_settle SettleStep (slice_get s.workers i) refl (λ x at. settle_is x)
-    done_is (Send i j) s shaped boards = lane_at s shaped i (from_to i j) (inl refl) (small_send j) (SendStep j) _ refl _ _ _ refl refl refl _ refl (send_is j)
-    done_is (Deliver i j) s shaped boards = lane_at s shaped i (from_to j i) (inr refl) small_deliver DeliverStep _ refl _ _ _ refl refl refl _ refl deliver_is
+    done_is (Send i j) s shaped boards = lane_at s shaped i (lane_ends i j) (inl refl) (small_send j) (SendStep j) _ refl _ _ _ refl refl refl _ refl (send_is j)
+    done_is (Deliver i j) s shaped boards = lane_at s shaped i (lane_ends j i) (inr refl) small_deliver DeliverStep _ refl _ _ _ refl refl refl _ refl deliver_is
     done_is (Draw i) s shaped boards = book_at s i small_draw DrawStep (slice_get s.workers i) refl (λ x at. draw_is x s.book)
     done_is (Announce i) s shaped boards = book_at s i (small_announce (role_at i)) (AnnounceStep (role_at i)) (slice_get s.workers i) refl (λ x at. announce_is (role_at i) x s.book)
     done_is (Grant i) s shaped boards = book_at s i (small_grant (role_at i)) (GrantStep (role_at i)) (slice_get s.workers i) refl (λ x at. grant_is (role_at i) goal x (boards_at task s.workers i x boards at) s.book)
@@ -261,8 +261,8 @@ module _ (task : Task) (owner : BoardModel → ℕ) where
     done_boards (Settle i) s is shaped boards =
         own_boards s i small_settle (slice_get s.workers i) refl boards
         (λ x at. settle_boards task x (boards_at task s.workers i x boards at) (λ item has. ((shaped.workers i (worker_of x) (worker_is s i x at)).held.items item has).0) _ (last_is x.held))
-    done_boards (Send i j) s is shaped boards = lane_boards s i (from_to i j) (small_send j) _ _ _ _ _ refl boards (send_entries j)
-    done_boards (Deliver i j) s is shaped boards = lane_boards s i (from_to j i) small_deliver _ _ _ _ _ refl boards deliver_entries
+    done_boards (Send i j) s is shaped boards = lane_boards s i (lane_ends i j) (small_send j) _ _ _ _ _ refl boards (send_entries j)
+    done_boards (Deliver i j) s is shaped boards = lane_boards s i (lane_ends j i) small_deliver _ _ _ _ _ refl boards deliver_entries
     done_boards (Draw i) s is shaped boards = book_boards s i small_draw (slice_get s.workers i) refl boards (λ x. draw_entries x s.book)
     done_boards (Announce i) s is shaped boards = book_boards s i (small_announce (role_at i)) (slice_get s.workers i) refl boards (λ x. announce_entries (role_at i) x s.book)
     done_boards (Grant i) s is shaped boards = book_boards s i (small_grant (role_at i)) (slice_get s.workers i) refl boards (λ x. grant_entries (role_at i) x s.book)

@@ -19,7 +19,7 @@ use Rattle.world_model.specs.Books.{BookState, grant_of, stop_of, with_rest}
 use Rattle.world_model.specs.Costs.{limit_of}
 use Rattle.world_model.specs.Expansions.{expansion_by, expansion}
 use Rattle.world_model.specs.Knowledge.{relaxation}
-use Rattle.world_model.specs.Steps.{ByWorker, Ends, Next, OnBook, OnLane, from_to, with_lane, with_worker}
+use Rattle.world_model.specs.Steps.{ByWorker, Ends, Next, OnBook, OnLane, lane_ends, with_lane, with_worker}
 use Rattle.world_model.specs.Turns.{IsRefused, Turn, turn}
 use Rattle.world_model.specs.WorkerSteps.{AtLane, DeliverStep, ExpandStep, ExpandStepBy, IsOverfull, SendStep, SettleStep}
 use Rattle.world_model.specs.Workers.{HasNothingBelow, IsFloor, IsIdle, IsNext, Lane, Packet, Role, WorkerState, packet_for, IsOpen}
@@ -186,8 +186,8 @@ pub record LaneChange (i : ℕ) (ends : Ends) (Change : AtLane → AtLane → Ty
 abbrev pub Accepts : Step → WorldState → WorldState → Type 0
 Accepts (Expand i) w w' = OwnChange i (Expands (role_of w i)) w w'
 Accepts (Settle i) w w' = OwnChange i Settles w w'
-Accepts (Send i j) w w' = LaneChange i (from_to i j) (Sends j) w w'
-Accepts (Deliver i j) w w' = LaneChange i (from_to j i) Delivers w w'
+Accepts (Send i j) w w' = LaneChange i (lane_ends i j) (Sends j) w w'
+Accepts (Deliver i j) w w' = LaneChange i (lane_ends j i) Delivers w w'
 Accepts (Draw i) w w' = BookChange i Draws w w'
 Accepts (Announce i) w w' = BookChange i (Announces (role_of w i)) w w'
 Accepts (Grant i) w w' = BookChange i (Grants (role_of w i)) w w'
@@ -224,8 +224,8 @@ on_lane i ends LaneStep Change cases it (inr (there, (worker, lane, new, at, at_
 pub next_cases : (step : Step) (it : Turn WorldState Refusal) → Next step it → Cases it (Accepts step it.before it.after)
 next_cases (Expand i) it next = by_worker i (ExpandStep (role_of it.before i)) (Expands (role_of it.before i)) (expand_cases (role_of it.before i)) it next
 next_cases (Settle i) it next = by_worker i SettleStep Settles settle_cases it next
-next_cases (Send i j) it next = on_lane i (from_to i j) (SendStep j) (Sends j) (send_cases j) it next
-next_cases (Deliver i j) it next = on_lane i (from_to j i) DeliverStep Delivers deliver_cases it next
+next_cases (Send i j) it next = on_lane i (lane_ends i j) (SendStep j) (Sends j) (send_cases j) it next
+next_cases (Deliver i j) it next = on_lane i (lane_ends j i) DeliverStep Delivers deliver_cases it next
 next_cases (Draw i) it next = on_book i DrawStep Draws draw_cases it next
 next_cases (Announce i) it next = on_book i (AnnounceStep (role_of it.before i)) (Announces (role_of it.before i)) (announce_cases (role_of it.before i)) it next
 next_cases (Grant i) it next = on_book i (GrantStep (role_of it.before i)) (Grants (role_of it.before i)) (grant_cases (role_of it.before i)) it next
@@ -407,8 +407,8 @@ module _ (w : WorldState) where
     pub steps_answer : (step : Step) → HasAnswer (Next step) w
     steps_answer (Expand i) none = by_worker_answered i (ExpandStep (role_of w i)) (expand_answers (role_of w i)) none
     steps_answer (Settle i) none = by_worker_answered i SettleStep settle_answers none
-    steps_answer (Send i j) none = on_lane_answered i (from_to i j) (inl refl) (SendStep j) (send_answers j) none
-    steps_answer (Deliver i j) none = on_lane_answered i (from_to j i) (inr refl) DeliverStep deliver_answers none
+    steps_answer (Send i j) none = on_lane_answered i (lane_ends i j) (inl refl) (SendStep j) (send_answers j) none
+    steps_answer (Deliver i j) none = on_lane_answered i (lane_ends j i) (inr refl) DeliverStep deliver_answers none
     steps_answer (Draw i) none = on_book_answered i DrawStep draw_answers none
     steps_answer (Announce i) none = on_book_answered i (AnnounceStep (role_of w i)) (announce_answers (role_of w i)) none
     steps_answer (Grant i) none = on_book_answered i (GrantStep (role_of w i)) (grant_answers (role_of w i)) none

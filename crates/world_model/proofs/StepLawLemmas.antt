@@ -13,7 +13,7 @@ use Rattle.world_model.specs.BookSteps.{AnnounceStep, AtBook, DrawStep, GrantSte
 use Rattle.world_model.specs.Books.{with_rest}
 use Rattle.world_model.specs.Knowledge.{relaxation}
 use Rattle.world_model.specs.StepLaws.{AnswersAgree, IsFirm, StepsAreDetermined}
-use Rattle.world_model.specs.Steps.{ByWorker, Ends, Next, OnBook, OnLane, from_to, with_lane, with_worker}
+use Rattle.world_model.specs.Steps.{ByWorker, Ends, Next, OnBook, OnLane, lane_ends, with_lane, with_worker}
 use Rattle.world_model.specs.Turns.{Becomes, Turn, Unless, turn}
 use Rattle.world_model.specs.WorkerSteps.{AtLane, DeliverStep, ExpandStep, SendStep, SettleStep, WithMemory}
 use Rattle.world_model.specs.Workers.{Lane, Role, WorkerState}
@@ -202,8 +202,8 @@ lane_one w i ends LaneStep one answer other after after' step step' =
 next_one : (step : Step) (w : WorldState) → ((i : ℕ) → step ≢ Expand i) → IsOne (Next step) w
 next_one (Expand i) w other = absurd (other i refl)
 next_one (Settle i) w other = own_one w i SettleStep settle_one
-next_one (Send i j) w other = lane_one w i (from_to i j) (SendStep j) (send_one j)
-next_one (Deliver i j) w other = lane_one w i (from_to j i) DeliverStep deliver_one
+next_one (Send i j) w other = lane_one w i (lane_ends i j) (SendStep j) (send_one j)
+next_one (Deliver i j) w other = lane_one w i (lane_ends j i) DeliverStep deliver_one
 next_one (Draw i) w other = book_one w i DrawStep draw_one
 next_one (Announce i) w other = book_one w i (AnnounceStep (role_of w i)) (announce_one (role_of w i))
 next_one (Grant i) w other = book_one w i (GrantStep (role_of w i)) (grant_one (role_of w i))

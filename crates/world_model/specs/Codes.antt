@@ -8,18 +8,18 @@ use Rattle.world_model.specs.declared.parts.Known.{Known}
 use Rattle.world_model.specs.Knowledge.{Knowledge}
 
 -- a move as a number
-abbrev pub number_of : Move → ℕ
-number_of U = 0
-number_of L = 1
-number_of R = 2
-number_of D = 3
+abbrev pub move_number : Move → ℕ
+move_number U = 0
+move_number L = 1
+move_number R = 2
+move_number D = 3
 
 -- the move of a number
 abbrev pub move_of : ℕ → Move
 move_of n = if n == 0 then U else if n == 1 then L else if n == 2 then R else D
 
 -- a move is that of its number
-abbrev pub same_move : (m : Move) → move_of (number_of m) ≡ m
+abbrev pub same_move : (m : Move) → move_of (move_number m) ≡ m
 same_move U = refl
 same_move L = refl
 same_move R = refl
@@ -27,7 +27,7 @@ same_move D = refl
 
 -- moves are told apart by their numbers
 abbrev pub move_code : Coded Move
-move_code = code_by ℕ coded_ℕ number_of move_of same_move
+move_code = code_by ℕ coded_ℕ move_number move_of same_move
 
 -- entries by cost, state and last move
 abbrev pub known_code : Coded Known

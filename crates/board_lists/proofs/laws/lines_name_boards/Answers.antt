@@ -13,7 +13,7 @@ use Rattle.std.proofs.lemmas.List.Splits.{slice_split_at, slice_split_none}
 use Rattle.board.specs.Boards.{BoardModel, IsBoard}
 use Rattle.board.proofs.KeyLemmas.{tiles_small}
 use Rattle.batch_lines.specs.Lines.{is_blank}
-use Rattle.batch_lines.specs.Words.{words_of, SpellsNumber, SpellEach, IsEntry}
+use Rattle.batch_lines.specs.Words.{words_of, SpellsDecimal, SpellEach, IsEntry}
 use Rattle.board_lists.specs.Lines.{id_text, tile_text, entry_text}
 use Rattle.board_lists.proofs.laws.lines_name_boards.Goals as goal
 
@@ -29,7 +29,7 @@ digits_all (d ∷ ds) digits = (digit_from_value d digits.0, digits_all ds digit
 decimal_digits : (n : ℕ) → n < 2 ^ 64 → All IsAsciiDigit (decimal n)
 decimal_digits n small = All-from_recursion IsAsciiDigit (decimal n) (digits_all (decimal n) (decimal_is_IsNumeral n small).0.1)
 
-spelled : (n : ℕ) → n < 2 ^ 64 → SpellsNumber (decimal n) n
+spelled : (n : ℕ) → n < 2 ^ 64 → SpellsDecimal (decimal n) n
 spelled n small = record {
   some = λ none. omega (arith, ap length none, decimal_nonempty n small);
   digits = decimal_digits n small;

@@ -4,7 +4,7 @@ use Rattle.std.proofs.lemmas.Bool.{false≢true}
 use Rattle.byte_streams.specs.Streams.{change}
 use Rattle.board.specs.Shapes.{cell_count}
 use Rattle.certificate.specs.Sources.{EndsEarly}
-use Rattle.certificate.specs.Readings.{board, board_in}
+use Rattle.certificate.specs.Readings.{board, board_from}
 use Rattle.certificate.specs.Fields.{SpellsBoard}
 use Rattle.certificate.specs.declared.faults.FormatFault.TheVariants.{OutOfRange}
 use Rattle.certificate.proofs.ReaderLemmas.{passed, cut_short, refused, not_range}
@@ -17,7 +17,7 @@ returns-in_err-fill g c =
     let grid = c.args.shape in
     let f = c.in_err-fill.field-0.0 in
     passed (board grid) (SpellsBoard grid) source c.from_residual.result f c.from_residual.ensures.1
-    (cut_short OutOfRange (cell_count grid) (board_in grid) source f (subst (λ (n : ℕ). EndsEarly source n f) (room c.cells.result c.cells.ensures.high ∙ c.cells.ensures.value) c.in_err-fill.ensures))
+    (cut_short OutOfRange (cell_count grid) (board_from grid) source f (subst (λ (n : ℕ). EndsEarly source n f) (room c.cells.result c.cells.ensures.high ∙ c.cells.ensures.value) c.in_err-fill.ensures))
 
 pub returns-in-Err : goal.returns-in-Err
 returns-in-Err g c =
@@ -26,4 +26,4 @@ returns-in-Err g c =
     let text = c.fill.new.text in
     let no = c.in-Err.ensures.accepted in
     let size = c.fill.auto.text ∙ room c.cells.result c.cells.ensures.high ∙ c.cells.ensures.value in
-    refused OutOfRange not_range (cell_count grid) (omega (arith, c.cells.ensures.low, c.cells.ensures.value)) (board_in grid) source text c.in_ok-fill.ensures size (no_board grid text c.cells.ensures.sides size (λ b. false≢true (no.1 b)))
+    refused OutOfRange not_range (cell_count grid) (omega (arith, c.cells.ensures.low, c.cells.ensures.value)) (board_from grid) source text c.in_ok-fill.ensures size (no_board grid text c.cells.ensures.sides size (λ b. false≢true (no.1 b)))

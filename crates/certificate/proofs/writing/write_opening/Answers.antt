@@ -3,7 +3,7 @@ use Rattle.byte_streams.specs.Streams.{change}
 use Rattle.byte_streams.specs.Sink.{Writes, WritesAll, FailsWriting}
 use Rattle.byte_streams.proofs.SinkLemmas.{Writes-after}
 use Rattle.board.specs.Shapes.{ShapeModel}
-use Rattle.certificate.specs.Spellings.{opening_text, kind_of, weights_text}
+use Rattle.certificate.specs.Spellings.{opening_text, cost_kind_of, weights_text}
 use Rattle.certificate.proofs.ReaderLemmas.{writes_stop}
 use Rattle.certificate.proofs.writing.write_opening.Goals as goal
 
@@ -12,8 +12,8 @@ unfolding opening_text
 returns-in_err-put g c =
     let state = g.K.Sink.state in
     let rule = c.args.costs.now in
-    let last = weights_text (kind_of rule) rule in
-    let sides : List ℕ = rule.grid.rows ∷ rule.grid.cols ∷ kind_of rule ∷ [] in
+    let last = weights_text (cost_kind_of rule) rule in
+    let sides : List ℕ = rule.grid.rows ∷ rule.grid.cols ∷ cost_kind_of rule ∷ [] in
     let rows : c.rows.result ≡ rule.grid.rows = c.rows.ensures ∙ ap (λ (g : ShapeModel). g.rows) c.shape-shape.ensures.value in
     let cols : c.cols.result ≡ rule.grid.cols = c.cols.ensures ∙ ap (λ (g : ShapeModel). g.cols) c.shape-shape.ensures.value in
     let fails = subst (λ (l : List ℕ). FailsWriting (change state c.args.sink.now c.put.new.self) l) (λ i. rows i ∷ cols i ∷ c.kind.ensures i ∷ []) c.in_err-put.ensures in
@@ -24,8 +24,8 @@ unfolding opening_text
 returns g c =
     let state = g.K.Sink.state in
     let rule = c.args.costs.now in
-    let last = weights_text (kind_of rule) rule in
-    let sides : List ℕ = rule.grid.rows ∷ rule.grid.cols ∷ kind_of rule ∷ [] in
+    let last = weights_text (cost_kind_of rule) rule in
+    let sides : List ℕ = rule.grid.rows ∷ rule.grid.cols ∷ cost_kind_of rule ∷ [] in
     let rows : c.rows.result ≡ rule.grid.rows = c.rows.ensures ∙ ap (λ (g : ShapeModel). g.rows) c.shape-shape.ensures.value in
     let cols : c.cols.result ≡ rule.grid.cols = c.cols.ensures ∙ ap (λ (g : ShapeModel). g.cols) c.shape-shape.ensures.value in
     let sent = subst (λ (l : List ℕ). WritesAll (change state c.args.sink.now c.put.new.self) l) (λ i. rows i ∷ cols i ∷ c.kind.ensures i ∷ []) c.in_ok-put.ensures in

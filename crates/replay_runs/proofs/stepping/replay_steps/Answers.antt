@@ -4,7 +4,7 @@ use Rattle.outcomes.specs.declared.outcome.Ending.{Ending}
 use Rattle.outcomes.specs.Endings.{without_rows}
 use Rattle.reports.specs.Readings.{HasSmallNumbers}
 use Rattle.reports.specs.Reports.{outcome_data, report_text}
-use Rattle.replay_runs.specs.Replies.{status_of}
+use Rattle.replay_runs.specs.Replies.{replay_status_of}
 use Rattle.replay_runs.proofs.ReadLemmas.{finishes, finishes_part}
 use Rattle.replay_runs.proofs.stepping.replay_steps.Goals as goal
 
@@ -22,4 +22,4 @@ returns-clause-replays g c = λ begun lines has.
     let world = g.R.Run.world in
     let text : c.as_str.result.now ≡ report_text (outcome_data c.args.opened.id.now (without_rows c.finish-outcome.result)) = c.as_str.ensures.value ∙ c.in-Ok-outcome_report.ensures.text ∙ ap (λ (ending : Ending). report_text (outcome_data c.args.opened.id.now ending)) c.without_rows-ending.ensures in
     let small : HasSmallNumbers (without_rows c.finish-outcome.result) = subst HasSmallNumbers c.without_rows-ending.ensures c.in-Ok-outcome_report.ensures.small in
-    finishes (from_to begun (g.S.Source.state c.answer_lines.new.source)) lines (world c.args.opened.run) (world c.answer_lines.new.run) (sink c.args.sink.now) (sink c.answer_lines.new.sink) (sink c.send.new.sink) c.args.opened.id.now c.in-Ok.said c.finish-outcome.result c.status_of.result (c.in-Ok.ensures.answers begun lines has) (c.finish-outcome.ensures, small) (rw text at c.in-Ok-send.ensures.writes) (c.status_of.ensures ∙ ap (λ (ending : Ending). status_of c.in-Ok.said ending) c.without_rows-ending.ensures)
+    finishes (from_to begun (g.S.Source.state c.answer_lines.new.source)) lines (world c.args.opened.run) (world c.answer_lines.new.run) (sink c.args.sink.now) (sink c.answer_lines.new.sink) (sink c.send.new.sink) c.args.opened.id.now c.in-Ok.said c.finish-outcome.result c.status_of.result (c.in-Ok.ensures.answers begun lines has) (c.finish-outcome.ensures, small) (rw text at c.in-Ok-send.ensures.writes) (c.status_of.ensures ∙ ap (λ (ending : Ending). replay_status_of c.in-Ok.said ending) c.without_rows-ending.ensures)

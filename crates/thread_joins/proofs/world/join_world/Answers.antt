@@ -13,7 +13,7 @@ use Rattle.world_ends.specs.Parts.{AreWorkersGuided, states_of}
 use Rattle.hda_run.specs.Jobs.{task_in}
 use Rattle.thread_joins.specs.declared.apart.Joined.{Joined}
 use Rattle.thread_joins.specs.Lanes.{by_sender}
-use Rattle.thread_joins.specs.Worlds.{parts_in, shared_by}
+use Rattle.thread_joins.specs.Worlds.{parts_in, shared_of_job}
 use Rattle.thread_joins.proofs.WorldLemmas.{joined_world}
 use Rattle.thread_joins.proofs.world.join_world.Goals as goal
 
@@ -51,7 +51,7 @@ returns-clause-world g c = λ p owners joint.
     (subst (λ (b : BookState). All (λ worker. worker.purse ≤ b.credit) (states_of c.deref_mut.result.now)) e.book audit.bound) in
     let credit : before.stop ≡ Some Quiet → before.credit ≡ 0 = λ quiet. ap (λ (b : BookState). b.credit) (sym after) ∙ c.stop.ensures.quiet (c.stop.ensures.value ∙ (ap (λ (b : BookState). b.stop) after ∙ quiet)) in
     let floors : length before.floors ≡ n = sym c.workers.ensures.value ∙ g.met.C.Tokens.one_count c.workers.result c.workers.ensures.allowed in (
-      world_with (shared_by owner_of p owners n) (parts_in new) before (by_sender n (left_rows new.ins.items)),
+      world_with (shared_of_job owner_of p owners n) (parts_in new) before (by_sender n (left_rows new.ins.items)),
       joined_world owner_of p owners n old new apart (ap (λ ws. states_of ws) items ∙ states) guided e.same.sent e.same.received e.same.in_rings
           (λ i j low high. e.tied i j (omega (arith, low, count)) (omega (arith, high, count)))
           c.requires.some before floors bound credit

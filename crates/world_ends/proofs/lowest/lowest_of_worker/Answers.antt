@@ -3,7 +3,7 @@ use Rattle.std.specs.Prelude.{Contains}
 use Rattle.world_model.specs.declared.parts.Item.{Item}
 use Rattle.world_model.specs.Workers.{WorkerState}
 use Rattle.worker_core.specs.Workers.{state_of}
-use Rattle.world_ends.specs.Parts.{task_in}
+use Rattle.world_ends.specs.Parts.{task_asked}
 use Rattle.world_ends.specs.Lowest.{IsLeastBeside, IsOfItem, IsOfUnsent}
 use Rattle.world_ends.proofs.PartLemmas.{worker_is}
 use Rattle.world_ends.proofs.lowest.lowest_of_worker.Goals as goal
@@ -17,7 +17,7 @@ lowest_of-least-requires g c = λ item has.
 -- src/lowest.rt:67:1
 pub returns-clause-least : goal.returns-clause-least
 returns-clause-least g c = λ guide is.
-    let task = task_in c.args.asked.now in
+    let task = task_asked c.args.asked.now in
     let worker = state_of c.args.worker.now in
     let same : c.held.result.now ≡ worker.held = c.held.ensures ∙ ap (λ (s : WorkerState). s.held) c.floor-floor.ensures.same in
     let held : IsLeastBeside (IsOfItem task.sum worker.held) c.lesser-least.result c.lowest_of-least.result = subst (λ (items : List Item). IsLeastBeside (IsOfItem task.sum items) c.lesser-least.result c.lowest_of-least.result) same c.lowest_of-least.ensures in
@@ -28,4 +28,4 @@ returns-clause-least g c = λ guide is.
 
 -- src/lowest.rt:67:1
 pub returns-clause-guided : goal.returns-clause-guided
-returns-clause-guided g c = λ guide is. c.floor-floor.ensures.guided (task_in c.args.asked.now) guide is
+returns-clause-guided g c = λ guide is. c.floor-floor.ensures.guided (task_asked c.args.asked.now) guide is

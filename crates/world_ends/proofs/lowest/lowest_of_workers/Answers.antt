@@ -5,7 +5,7 @@ use Rattle.std.proofs.lemmas.List.Elements.{All-set}
 use Rattle.std.proofs.Math.Seq.{map-set_same}
 use Rattle.worker_core.specs.Workers.{state_of}
 use Rattle.worker_core.specs.Roles.{IsGuided}
-use Rattle.world_ends.specs.Parts.{task_in, states_of}
+use Rattle.world_ends.specs.Parts.{task_asked, states_of}
 use Rattle.world_ends.specs.Lowest.{IsLeastBeside}
 use Rattle.world_ends.proofs.PartLemmas.{IsOfWorkersUpTo, worker_more, all_workers, state_at}
 use Rattle.world_ends.proofs.lowest.lowest_of_workers.Goals as goal
@@ -20,7 +20,7 @@ lowest_of_worker-least-requires-clause-items g c κs lives =
 -- src/lowest.rt:60:5
 pub workers-preserved : goal.workers-preserved
 workers-preserved g c =
-    let task = task_in c.args.asked.now in
+    let task = task_asked c.args.asked.now in
     let states = states_of c.args.workers.now in
     let within : c.workers.i < length c.workers.workers = search rules in
     let d = c.index-workers-i.result in
@@ -39,7 +39,7 @@ workers-preserved g c =
 -- src/lowest.rt:48:1
 pub returns-clause-least : goal.returns-clause-least
 returns-clause-least g c = λ guide is.
-    let task = task_in c.args.asked.now in
+    let task = task_asked c.args.asked.now in
     let states = states_of c.args.workers.now in
     let ended : c.workers.i ≡ length c.args.workers.now = search rules in
     let e : c.workers.i ≡ length states = simp length-map ended in

@@ -3,14 +3,14 @@ use Rattle.std.proofs.lemmas.Bool.{cases_lt}
 use Rattle.outcomes.specs.Outcomes.{Task}
 use Rattle.world_model.specs.Outcomes.{IsGiven}
 use Rattle.world_model.specs.Workers.{WorkerState}
-use Rattle.world_ends.specs.Parts.{task_in, HasParts}
+use Rattle.world_ends.specs.Parts.{task_asked, HasParts}
 use Rattle.world_ends.specs.Endings.{EndsWhole}
 use Rattle.world_ends.proofs.PartLemmas.{rows_alone, bound_left, bound_rows, rows_lacking}
 use Rattle.world_ends.proofs.outcome.outcome_of.Goals as goal
 
 pub returns-in-Ok-rows_for-clause-given : goal.returns-in-Ok-rows_for-clause-given
 returns-in-Ok-rows_for-clause-given g c = λ w seen.
-    let task = task_in c.args.asked.now in
+    let task = task_asked c.args.asked.now in
     let owner_among = g.S.Spread.owner_of c.args.owners.now in
     let ends = subst (EndsWhole w) c.in-Optimal.is (c.in-Ok.ensures.given w seen) in
     let after = subst (λ (ws : List WorkerState). HasParts task owner_among ws w) (sym c.in-Ok.ensures.same) seen.parts in
@@ -26,7 +26,7 @@ returns-in-Unsolvable-clause-given g c = λ w seen. subst (EndsWhole w) c.in-Uns
 
 pub returns-in-Ok-rows_for-2-clause-given : goal.returns-in-Ok-rows_for-2-clause-given
 returns-in-Ok-rows_for-2-clause-given g c = λ w seen.
-    let task = task_in c.args.asked.now in
+    let task = task_asked c.args.asked.now in
     let owner_among = g.S.Spread.owner_of c.args.owners.now in
     let ends = subst (EndsWhole w) c.in-Bounded.is (c.in-Ok.ensures.given w seen) in
     let after = subst (λ (ws : List WorkerState). HasParts task owner_among ws w) (sym c.in-Ok.ensures.same) seen.parts in
@@ -36,5 +36,5 @@ pub returns-in-Err-rows_for-2-clause-given : goal.returns-in-Err-rows_for-2-clau
 returns-in-Err-rows_for-2-clause-given g c = λ w seen.
     let ends = subst (EndsWhole w) c.in-Bounded.is (c.in-Ok.ensures.given w seen) in
     let above : w.task.sum w.task.start < c.in-Bounded.bound = subst (λ (t : Task). t.sum t.start < c.in-Bounded.bound) (sym seen.parts.asks)
-    (⊎_elim (λ (lt : (task_in c.args.asked.now).sum (task_in c.args.asked.now).start < c.in-Bounded.bound). lt) (λ (le : c.in-Bounded.bound ≤ (task_in c.args.asked.now).sum (task_in c.args.asked.now).start). absurd (cc (c.in-Err-rows_for-2.ensures.free le))) (cases_lt ((task_in c.args.asked.now).sum (task_in c.args.asked.now).start) c.in-Bounded.bound)) in
+    (⊎_elim (λ (lt : (task_asked c.args.asked.now).sum (task_asked c.args.asked.now).start < c.in-Bounded.bound). lt) (λ (le : c.in-Bounded.bound ≤ (task_asked c.args.asked.now).sum (task_asked c.args.asked.now).start). absurd (cc (c.in-Err-rows_for-2.ensures.free le))) (cases_lt ((task_asked c.args.asked.now).sum (task_asked c.args.asked.now).start) c.in-Bounded.bound)) in
     subst (IsGiven w) (sym c.bound_alone-in-Err-rows_for-2.ensures) (rows_lacking w c.in-Bounded.bound c.in-Bounded.best c.in-Bounded.cause c.in-Err-rows_for-2.refused above ends)

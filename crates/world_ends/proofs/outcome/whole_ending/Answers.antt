@@ -2,7 +2,7 @@ use Rattle.std.proofs.Common.{◌≡◌, ℕ, List, None, Some, sym, ap, ◌∙�
 use Rattle.std.specs.Prelude.{max}
 use Rattle.world_model.specs.Costs.{lesser}
 use Rattle.world_model.specs.Workers.{WorkerState}
-use Rattle.world_ends.specs.Parts.{task_in, states_of, known_in}
+use Rattle.world_ends.specs.Parts.{task_asked, states_of, known_in}
 use Rattle.world_ends.specs.Plans.{IsTraced}
 use Rattle.world_ends.proofs.PartLemmas.{items_are, cost_in, no_plan, no_goal, no_memory, plan_above, plan_least}
 use Rattle.world_ends.proofs.outcome.whole_ending.Goals as goal
@@ -10,12 +10,12 @@ use Rattle.world_ends.proofs.outcome.whole_ending.Goals as goal
 -- src/outcome.rt:96:9
 pub lowest_of_workers-lowest-requires-clause-items : goal.lowest_of_workers-lowest-requires-clause-items
 lowest_of_workers-lowest-requires-clause-items g c κs within = λ i worker at.
-    items_are (task_in c.args.asked.now) (g.S.Spread.owner_of c.args.owners.now) (states_of c.args.workers.now) c.requires.world c.requires.parts c.args.asked.now.bound.now.split.grid c.requires.sides i worker at
+    items_are (task_asked c.args.asked.now) (g.S.Spread.owner_of c.args.owners.now) (states_of c.args.workers.now) c.requires.world c.requires.parts c.args.asked.now.bound.now.split.grid c.requires.sides i worker at
 
 -- src/outcome.rt:99:9
 pub returns-in_default-clause-given : goal.returns-in_default-clause-given
 returns-in_default-clause-given g c = λ w seen.
-    let task = task_in c.args.asked.now in
+    let task = task_asked c.args.asked.now in
     let owner_among = g.S.Spread.owner_of c.args.owners.now in
     let states = states_of c.args.workers.now in
     let least = c.lowest_of_workers-lowest.ensures.least c.requires.guide c.requires.guided in
@@ -26,7 +26,7 @@ returns-in_default-clause-given g c = λ w seen.
 -- src/outcome.rt:106:9
 pub returns-in_default-reached-clause-given : goal.returns-in_default-reached-clause-given
 returns-in_default-reached-clause-given g c = λ w seen.
-    let task = task_in c.args.asked.now in
+    let task = task_asked c.args.asked.now in
     let owner_among = g.S.Spread.owner_of c.args.owners.now in
     let states = states_of c.args.workers.now in
     let least = c.lowest_of_workers-lowest.ensures.least c.requires.guide c.requires.guided in
@@ -38,7 +38,7 @@ returns-in_default-reached-clause-given g c = λ w seen.
 -- src/outcome.rt:115:13
 pub returns-in-Err-clause-lacking : goal.returns-in-Err-clause-lacking
 returns-in-Err-clause-lacking g c = λ w parts laned.
-    let task = task_in c.args.asked.now in
+    let task = task_asked c.args.asked.now in
     let owner_among = g.S.Spread.owner_of c.args.owners.now in
     let states = states_of c.args.workers.now in
     let least = c.lowest_of_workers-lowest.ensures.least c.requires.guide c.requires.guided in
@@ -50,7 +50,7 @@ returns-in-Err-clause-lacking g c = λ w parts laned.
 -- src/outcome.rt:123:9
 pub returns-then-found-bound-clause-given : goal.returns-then-found-bound-clause-given
 returns-then-found-bound-clause-given g c = λ w seen.
-    let task = task_in c.args.asked.now in
+    let task = task_asked c.args.asked.now in
     let owner_among = g.S.Spread.owner_of c.args.owners.now in
     let states = states_of c.args.workers.now in
     let least = c.lowest_of_workers-lowest.ensures.least c.requires.guide c.requires.guided in
@@ -63,7 +63,7 @@ returns-then-found-bound-clause-given g c = λ w seen.
 -- src/outcome.rt:79:1
 pub returns-clause-given : goal.returns-clause-given
 returns-clause-given g c = λ w seen.
-    let task = task_in c.args.asked.now in
+    let task = task_asked c.args.asked.now in
     let owner_among = g.S.Spread.owner_of c.args.owners.now in
     let states = states_of c.args.workers.now in
     let least = c.lowest_of_workers-lowest.ensures.least c.requires.guide c.requires.guided in

@@ -6,7 +6,7 @@ use Rattle.board.specs.Boards.{BoardModel}
 use Rattle.board.specs.Plans.{Leads}
 use Rattle.world_model.specs.Worlds.{WorldState}
 use Rattle.world_model.specs.Outcomes.{IsByLastMoves}
-use Rattle.world_ends.specs.Parts.{task_in, states_of, HasParts}
+use Rattle.world_ends.specs.Parts.{task_asked, states_of, HasParts}
 use Rattle.world_ends.proofs.PartLemmas.{before_is, differs, same_as, traced_more}
 use Rattle.world_ends.proofs.plan.plan_back.Goals as goal
 
@@ -14,12 +14,12 @@ use Rattle.world_ends.proofs.plan.plan_back.Goals as goal
 pub step_back-before-requires-clause-reached : goal.step_back-before-requires-clause-reached
 step_back-before-requires-clause-reached g c κs within =
     let now = c.boards.invariant in
-    before_is (task_in c.args.asked.now) (g.S.Spread.owner_of c.args.owners.now) (states_of c.args.workers.now) c.requires.world.0 c.requires.world.1 c.boards.board c.boards.here now.board now.found (differs c.boards.board c.args.asked.now.start (sym c.boards-test.true ∙ c.ne.ensures))
+    before_is (task_asked c.args.asked.now) (g.S.Spread.owner_of c.args.owners.now) (states_of c.args.workers.now) c.requires.world.0 c.requires.world.1 c.boards.board c.boards.here now.board now.found (differs c.boards.board c.args.asked.now.start (sym c.boards-test.true ∙ c.ne.ensures))
 
 -- src/plan.rt:51:5
 pub boards-preserved : goal.boards-preserved
 boards-preserved g c =
-    let task = task_in c.args.asked.now in
+    let task = task_asked c.args.asked.now in
     let owner_among = g.S.Spread.owner_of c.args.owners.now in
     let states = states_of c.args.workers.now in
     let now = c.boards.invariant in

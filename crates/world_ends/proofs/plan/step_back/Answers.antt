@@ -4,7 +4,7 @@ use Rattle.board.specs.Boards.{BoardModel}
 use Rattle.board.specs.Moves.{Moves}
 use Rattle.world_model.specs.declared.parts.Known.{Known}
 use Rattle.world_model.specs.Workers.{IsTaskBoard}
-use Rattle.world_ends.specs.Parts.{task_in, states_of, known_in}
+use Rattle.world_ends.specs.Parts.{task_asked, states_of, known_in}
 use Rattle.world_ends.proofs.PartLemmas.{stepped_back, some_is, found_before, known_by_answer}
 use Rattle.world_ends.proofs.plan.step_back.Goals as goal
 
@@ -35,7 +35,7 @@ returns-clause-before g c =
     let cost : c.unwrap-there.result.cost ≡ has.2.cost = ap (λ (o : Option Known). (unwrap_or o has.2).cost) (sym c.unwrap-there.ensures ∙ there) in
     let paid : c.unwrap-before.result.1 ≡ has.1 = ap (λ (p : BoardModel × ℕ). p.1) same in
     record {
-      board = subst (λ (p : BoardModel × ℕ). IsTaskBoard (task_in c.args.asked.now) p.0) (sym same) has.3.board;
+      board = subst (λ (p : BoardModel × ℕ). IsTaskBoard (task_asked c.args.asked.now) p.0) (sym same) has.3.board;
       moves = subst (λ (p : BoardModel × ℕ). Moves c.args.asked.now.weights p.0 c.args.here.via c.args.board.now p.1) (sym same) has.3.moves;
       known = known_by_answer c.known_of.result (at c.unwrap-before.result.0) c.unwrap-there.result c.known_of.ensures c.unwrap-there.ensures;
       cheaper = omega (arith, cost, paid, has.3.cheaper);

@@ -2,14 +2,14 @@ use Rattle.std.proofs.Common.{rules, ◌≡◌, ℕ, ◌+◌, ◌<◌, ◌≤◌
 use Rattle.std.proofs.lemmas.Bool.{cases_lt}
 use Rattle.board.specs.Shapes.{ShapeModel}
 use Rattle.search_keys.specs.SearchKeys.{HasSearchKey}
-use Rattle.world_ends.specs.Parts.{task_in}
+use Rattle.world_ends.specs.Parts.{task_asked}
 use Rattle.world_ends.proofs.RowLemmas.{AreRowsUpTo, read_at, row_left_out, row_added, all_rows_in}
 use Rattle.world_ends.proofs.rows.add_rows.Goals as goal
 
 -- src/rows.rt:93:5
 pub boards-preserved : goal.boards-preserved
 boards-preserved c =
-    let task = task_in c.args.asked.now in
+    let task = task_asked c.args.asked.now in
     let k = c.args.cost in
     let closed = c.args.lists.now.closed in
     let old = c.args.rows.now.items in
@@ -34,7 +34,7 @@ boards-preserved c =
 -- src/rows.rt:78:1
 pub returns-clause-each : goal.returns-clause-each
 returns-clause-each c =
-    let task = task_in c.args.asked.now in
+    let task = task_asked c.args.asked.now in
     let closed = c.args.lists.now.closed in
     let ended : c.boards.place ≡ length c.args.lists.now.closed.keys = search rules in
     all_rows_in task c.args.cost closed c.len-place-end.ensures.table c.args.rows.now.items c.boards.rows.items

@@ -4,7 +4,7 @@ use Rattle.std.proofs.lemmas.List.{length-map}
 use Rattle.search_lists.specs.Lists.{SearchListsModel}
 use Rattle.worker_core.specs.Workers.{state_of}
 use Rattle.world_ends.specs.declared.rows.KeyedRow.{KeyedRow}
-use Rattle.world_ends.specs.Parts.{task_in, states_of}
+use Rattle.world_ends.specs.Parts.{task_asked, states_of}
 use Rattle.world_ends.specs.Rows.{IsRowIn, IsOfBoards, AreElsewhere}
 use Rattle.world_ends.proofs.PartLemmas.{state_at}
 use Rattle.world_ends.proofs.RowLemmas.{AreRowsOfFirst, rows_of_one_more, rows_of_all, boards_are, rows_elsewhere}
@@ -13,7 +13,7 @@ use Rattle.world_ends.proofs.rows.keyed_rows.Goals as goal
 -- src/rows.rt:72:9
 pub add_rows-requires-clause-boards : goal.add_rows-requires-clause-boards
 add_rows-requires-clause-boards g c =
-    let task = task_in c.args.asked.now in
+    let task = task_asked c.args.asked.now in
     let states = states_of c.args.workers.now in
     let within : c.workers.worker-index < length c.args.workers.now = search rules in
     let worker = c.worker-item.result in
@@ -24,7 +24,7 @@ add_rows-requires-clause-boards g c =
 -- src/rows.rt:72:9
 pub add_rows-requires-clause-elsewhere : goal.add_rows-requires-clause-elsewhere
 add_rows-requires-clause-elsewhere g c =
-    let task = task_in c.args.asked.now in
+    let task = task_asked c.args.asked.now in
     let states = states_of c.args.workers.now in
     let within : c.workers.worker-index < length c.args.workers.now = search rules in
     let worker = c.worker-item.result in
@@ -35,7 +35,7 @@ add_rows-requires-clause-elsewhere g c =
 -- src/rows.rt:71:5
 pub workers-preserved : goal.workers-preserved
 workers-preserved g c =
-    let task = task_in c.args.asked.now in
+    let task = task_asked c.args.asked.now in
     let states = states_of c.args.workers.now in
     let within : c.workers.worker-index < length c.args.workers.now = search rules in
     let worker = c.worker-item.result in
@@ -48,7 +48,7 @@ workers-preserved g c =
 -- src/rows.rt:58:1
 pub returns : goal.returns
 returns g c =
-    let task = task_in c.args.asked.now in
+    let task = task_asked c.args.asked.now in
     let states = states_of c.args.workers.now in
     let ended : c.workers.worker-index ≡ length c.args.workers.now = search rules in
     let e : c.workers.worker-index ≡ length states = simp length-map ended in

@@ -10,7 +10,7 @@ use Rattle.board.specs.Keys.{HasKey}
 use Rattle.world_model.specs.Outcomes.{AreRowsFor}
 use Rattle.world_model.specs.Worlds.{WorldState}
 use Rattle.world_ends.specs.declared.rows.KeyedRow.{KeyedRow}
-use Rattle.world_ends.specs.Parts.{task_in, states_of, HasParts}
+use Rattle.world_ends.specs.Parts.{task_asked, states_of, HasParts}
 use Rattle.world_ends.specs.Rows.{AreBoardsOf}
 use Rattle.world_ends.proofs.RowLemmas.{boards_of_keys, rows_are_for}
 use Rattle.world_ends.proofs.rows.rows_for.Goals as goal
@@ -18,7 +18,7 @@ use Rattle.world_ends.proofs.rows.rows_for.Goals as goal
 -- src/rows.rt:54:5
 pub with_boards-requires : goal.with_boards-requires
 with_boards-requires g c =
-    let task = task_in c.args.asked.now in
+    let task = task_asked c.args.asked.now in
     let states = states_of c.args.workers.now in
     let sorted = c.sort_unstable_by_key.new.self.items in
     let moved : IsPermutation c.in_ok-rows.rows.items sorted = c.sort_unstable_by_key.ensures.permutation in
@@ -30,7 +30,7 @@ with_boards-requires g c =
 -- src/rows.rt:36:1
 pub returns-clause-rows : goal.returns-clause-rows
 returns-clause-rows g c =
-    let task = task_in c.args.asked.now in
+    let task = task_asked c.args.asked.now in
     let states = states_of c.args.workers.now in
     let sorted = c.sort_unstable_by_key.new.self.items in
     let moved : IsPermutation c.in_ok-rows.rows.items sorted = c.sort_unstable_by_key.ensures.permutation in

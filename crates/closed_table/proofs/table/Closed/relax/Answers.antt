@@ -3,7 +3,7 @@ use Rattle.std.specs.Prelude.{slice_get}
 use Rattle.std.specs.FinMap as map
 use Rattle.world_model.specs.declared.parts.Known.{Known}
 use Rattle.closed_table.specs.Tables.{ClosedModel, relaxation_answer}
-use Rattle.closed_table.specs.Chains.{row_of, rows_of}
+use Rattle.closed_table.specs.Chains.{row_of_slot, rows_of_slots}
 use Rattle.closed_table.proofs.CountLemmas.{count_le}
 use Rattle.closed_table.proofs.SlotLemmas.{none_known, has_room, listed_there, known_there, sound_there, table_there}
 use Rattle.closed_table.proofs.TableLemmas.{unknown, pushed, table_new, table_lower, table_kept, met_at, kept_is, lower_is}
@@ -55,14 +55,14 @@ returns-in_default-clause-table c =
     let s = c.self.inside.index in
     let none = none_known c.self.inside c.self.invariant c.args.self.now c.self.view_is c.args.key c.in_default.ensures in
     let entry : Known = met_at c.args.cost c.args.via in
-    pushed (rows_of s.slots s.len) (rows_of c.add.new.index.slots c.add.new.index.len) c.args.key (c.self.inside.room - 1) entry c.add.ensures.rows (unknown s.slots s.len c.self.invariant.indexed.in_slots c.args.key c.in_default.ensures)
+    pushed (rows_of_slots s.slots s.len) (rows_of_slots c.add.new.index.slots c.add.new.index.len) c.args.key (c.self.inside.room - 1) entry c.add.ensures.rows (unknown s.slots s.len c.self.invariant.indexed.in_slots c.args.key c.in_default.ensures)
     ∙ ap (λ (t : ClosedModel). record { keys = t.keys ++ c.args.key ∷ []; known = map.insert t.known c.args.key entry; room = t.room - 1 }) c.self.view_is
     ∙ sym (table_new c.args.self.now c.args.key c.args.cost c.args.via none)
 
 pub returns-then-slot-cost-clause-answer : goal.returns-then-slot-cost-clause-answer
 returns-then-slot-cost-clause-answer c =
     let known = known_there c.self.inside c.self.invariant c.args.self.now c.self.view_is c.args.key c.in-Some.place c.in-Some.ensures.0 c.in-Some.ensures.1 c.at-slot.result.now c.at-slot.ensures in
-    sym (ap (λ o. relaxation_answer o c.args.cost) known ∙ kept_is (row_of c.at-slot.result.now).1 c.args.cost c.if-slot-cost.true)
+    sym (ap (λ o. relaxation_answer o c.args.cost) known ∙ kept_is (row_of_slot c.at-slot.result.now).1 c.args.cost c.if-slot-cost.true)
 
 pub invariant_of-self-2 : goal.invariant_of-self-2
 invariant_of-self-2 c =
@@ -71,13 +71,13 @@ invariant_of-self-2 c =
 pub returns-clause-answer : goal.returns-clause-answer
 returns-clause-answer c =
     let known = known_there c.self.inside c.self.invariant c.args.self.now c.self.view_is c.args.key c.in-Some.place c.in-Some.ensures.0 c.in-Some.ensures.1 c.at-slot.result.now c.at-slot.ensures in
-    sym (ap (λ o. relaxation_answer o c.args.cost) known ∙ lower_is (row_of c.at-slot.result.now).1 c.args.cost c.if-slot-cost.false)
+    sym (ap (λ o. relaxation_answer o c.args.cost) known ∙ lower_is (row_of_slot c.at-slot.result.now).1 c.args.cost c.if-slot-cost.false)
 
 pub returns-clause-table : goal.returns-clause-table
 returns-clause-table c =
     let known = known_there c.self.inside c.self.invariant c.args.self.now c.self.view_is c.args.key c.in-Some.place c.in-Some.ensures.0 c.in-Some.ensures.1 c.at-slot.result.now c.at-slot.ensures in
     table_there c.self.inside c.self.invariant c.args.self.now c.self.view_is c.args.key c.in-Some.place c.in-Some.ensures.0 c.in-Some.ensures.1 c.at_mut-slot.result.now c.at_mut-slot.ensures.value (met_at c.args.cost c.args.via) _ refl
-    ∙ sym (table_lower c.args.self.now c.args.key c.args.cost c.args.via (row_of c.at-slot.result.now).1 known c.if-slot-cost.false)
+    ∙ sym (table_lower c.args.self.now c.args.key c.args.cost c.args.via (row_of_slot c.at-slot.result.now).1 known c.if-slot-cost.false)
 
 pub returns-clause-place : goal.returns-clause-place
 returns-clause-place c =
@@ -87,7 +87,7 @@ returns-clause-place c =
 pub returns-then-slot-cost-clause-table : goal.returns-then-slot-cost-clause-table
 returns-then-slot-cost-clause-table c =
     let known = known_there c.self.inside c.self.invariant c.args.self.now c.self.view_is c.args.key c.in-Some.place c.in-Some.ensures.0 c.in-Some.ensures.1 c.at-slot.result.now c.at-slot.ensures in
-    sym (table_kept c.args.self.now c.args.key c.args.cost c.args.via (row_of c.at-slot.result.now).1 known c.if-slot-cost.true)
+    sym (table_kept c.args.self.now c.args.key c.args.cost c.args.via (row_of_slot c.at-slot.result.now).1 known c.if-slot-cost.true)
 
 pub returns-then-slot-cost-clause-place : goal.returns-then-slot-cost-clause-place
 returns-then-slot-cost-clause-place c =

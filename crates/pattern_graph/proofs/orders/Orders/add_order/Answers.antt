@@ -1,6 +1,6 @@
 use Rattle.std.proofs.Common.{ℕ, ◌≡◌, ◌-◌, ◌++◌, map, refl, subst, arith}
 use Rattle.std.specs.List.{range_with_len}
-use Rattle.pattern_graph.specs.Orders.{order_of, positions_at, tile_of, exchanged}
+use Rattle.pattern_graph.specs.Orders.{order_of, positions_at, tile_of, exchanged_position}
 use Rattle.pattern_graph.proofs.OrderTables.{factorial_small, kept_more, tile_found, passed_found, passed_low, pushed}
 use Rattle.pattern_graph.proofs.orders.Orders.add_order.Goals as goal
 
@@ -16,23 +16,23 @@ positions-preserved c =
 
 pub overflow_cast-other : goal.overflow_cast-other
 overflow_cast-other c =
-    let found : c.order_of-other.result ≡ order_of (map (exchanged c.passes.position) (positions_at c.args.self.now.count c.args.order)) = passed_found _ _ _ c.passes.position _ _ _ _ _ _ refl c.requires.orders.short c.passes.invariant.count c.write_positions.ensures c.exchange.ensures c.order_of-other.ensures.value in
+    let found : c.order_of-other.result ≡ order_of (map (exchanged_position c.passes.position) (positions_at c.args.self.now.count c.args.order)) = passed_found _ _ _ c.passes.position _ _ _ _ _ _ refl c.requires.orders.short c.passes.invariant.count c.write_positions.ensures c.exchange.ensures c.order_of-other.ensures.value in
     let low = passed_low c.args.self.now.count c.args.order c.passes.position in
     let small = factorial_small c.args.self.now.count c.requires.orders.short in
     omega arith
 
 pub passes-preserved : goal.passes-preserved
 passes-preserved c =
-    let found : c.order_of-other.result ≡ order_of (map (exchanged c.passes.position) (positions_at c.args.self.now.count c.args.order)) = passed_found _ _ _ c.passes.position _ _ _ _ _ _ refl c.requires.orders.short c.passes.invariant.count c.write_positions.ensures c.exchange.ensures c.order_of-other.ensures.value in
+    let found : c.order_of-other.result ≡ order_of (map (exchanged_position c.passes.position) (positions_at c.args.self.now.count c.args.order)) = passed_found _ _ _ c.passes.position _ _ _ _ _ _ refl c.requires.orders.short c.passes.invariant.count c.write_positions.ensures c.exchange.ensures c.order_of-other.ensures.value in
     record {
       count = c.passes.invariant.count;
       size = c.passes.invariant.size;
       tiles = c.passes.invariant.tiles;
-      passes = pushed (λ position. order_of (map (exchanged position) (positions_at c.args.self.now.count c.args.order))) c.args.self.now.passes.items c.passes.self.passes.items c.push-in-passes.new.items.items c.passes.position c.order_of-other.result c.passes.invariant.passes c.in_ok-push-2.ensures.items found;
+      passes = pushed (λ position. order_of (map (exchanged_position position) (positions_at c.args.self.now.count c.args.order))) c.args.self.now.passes.items c.passes.self.passes.items c.push-in-passes.new.items.items c.passes.position c.order_of-other.result c.passes.invariant.passes c.in_ok-push-2.ensures.items found;
     }
 
 pub returns : goal.returns
 returns c =
     let end : c.passes.position ≡ c.args.self.now.count - 1 = omega arith in
     kept_more c.args.self.now.count c.args.order c.args.self.now c.passes.self c.requires.orders c.passes.invariant.count c.passes.invariant.size c.passes.invariant.tiles
-    (subst (λ (n : ℕ). c.passes.self.passes.items ≡ c.args.self.now.passes.items ++ map (λ position. order_of (map (exchanged position) (positions_at c.args.self.now.count c.args.order))) (range_with_len 0 n)) end c.passes.invariant.passes)
+    (subst (λ (n : ℕ). c.passes.self.passes.items ≡ c.args.self.now.passes.items ++ map (λ position. order_of (map (exchanged_position position) (positions_at c.args.self.now.count c.args.order))) (range_with_len 0 n)) end c.passes.invariant.passes)

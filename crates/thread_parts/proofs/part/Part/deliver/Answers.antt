@@ -1,7 +1,7 @@
 use Rattle.std.proofs.Common.{◌<◌, ◌≡◌, [], length, inl, inr, refl, sym, subst, ◌∙◌, arith}
 use Rattle.std.proofs.lemmas.Result.{on_ok_weaker, on_err_weaker}
 use Rattle.thread_model.specs.Parts.{Keeps}
-use Rattle.thread_parts.specs.Parts.{part_state, role_of}
+use Rattle.thread_parts.specs.Parts.{part_state, role_of_part}
 use Rattle.thread_parts.proofs.PartLemmas.{answered, receives, none_received, in_kept, with_in, left_at, at_empty, deliver_by_ring, none_seen, in_count, holds_after}
 use Rattle.worker_core.specs.Workers.{state_of}
 use Rattle.thread_parts.proofs.part.Part.deliver.Goals as goal
@@ -38,8 +38,8 @@ returns-clause-part g c =
     ] in
     record {
       holds = holds_after owner_of n old c.requires.holds new refl refl (elim (answered c.deliver.result c.deliver.ensures.given c.deliver.ensures.refused) [
-        | inl has ↦ c.steps_are_kept.ensures.receive n from (role_of owner_of n old) (part_state old) (part_state new) c.requires.holds.role c.requires.there c.requires.holds.keeps (receives old from worker lane c.deliver.new.lane here there has)
-        | inr same ↦ subst (Keeps n (role_of owner_of n old)) (sym (none_received old from worker lane c.deliver.new.lane here same.0 same.1)) c.requires.holds.keeps
+        | inl has ↦ c.steps_are_kept.ensures.receive n from (role_of_part owner_of n old) (part_state old) (part_state new) c.requires.holds.role c.requires.there c.requires.holds.keeps (receives old from worker lane c.deliver.new.lane here there has)
+        | inr same ↦ subst (Keeps n (role_of_part owner_of n old)) (sym (none_received old from worker lane c.deliver.new.lane here same.0 same.1)) c.requires.holds.keeps
       ]) c.deliver.ensures.lists;
       kept = in_kept c.args.self.now c.args.from c.deliver.new.self c.index_mut-lane.result.now c.deliver.new.lane c.index_mut-lane.ensures.value ring;
     }

@@ -1,7 +1,7 @@
 use Rattle.std.proofs.Common.{inl}
 use Rattle.worker_core.specs.Workers.{state_of}
 use Rattle.world_model.specs.Turns.{refusal_in}
-use Rattle.thread_parts.specs.Parts.{part_state, role_of}
+use Rattle.thread_parts.specs.Parts.{part_state, role_of_part}
 use Rattle.thread_parts.proofs.PartLemmas.{with_kept, same_guided, barred_draw}
 use Rattle.thread_parts.proofs.part.Part.draw.Goals as goal
 
@@ -16,5 +16,5 @@ returns-clause-part g c =
     let old = c.args.self.now in
     let n = g.C.Tokens.workers in
     with_kept g.S.Spread.owner_of n old c.requires c.draw.new.self
-    (c.steps_are_kept.ensures.book n (role_of g.S.Spread.owner_of n old) (part_state old) c.args.book.now c.draw.new.book (refusal_in c.draw.result) (state_of c.draw.new.self) c.requires.role c.requires.keeps c.in_default.ensures.purse (inl c.draw.ensures.step))
+    (c.steps_are_kept.ensures.book n (role_of_part g.S.Spread.owner_of n old) (part_state old) c.args.book.now c.draw.new.book (refusal_in c.draw.result) (state_of c.draw.new.self) c.requires.role c.requires.keeps c.in_default.ensures.purse (inl c.draw.ensures.step))
     (same_guided g.S.Spread.owner_of n old c.requires c.draw.new.self c.draw.ensures.keeps.lists)

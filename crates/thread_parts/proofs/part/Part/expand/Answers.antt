@@ -3,7 +3,7 @@ use Rattle.world_model.specs.Turns.{refusal_in, turn}
 use Rattle.world_model.specs.Workers.{Role}
 use Rattle.world_model.specs.WorkerSteps.{ExpandOnwardStep}
 use Rattle.worker_core.specs.Workers.{state_of}
-use Rattle.thread_parts.specs.Parts.{part_state, role_of}
+use Rattle.thread_parts.specs.Parts.{part_state, role_of_part}
 use Rattle.thread_parts.proofs.PartLemmas.{serves, role_is, guided_after, with_kept}
 use Rattle.thread_parts.proofs.part.Part.expand.Goals as goal
 
@@ -21,7 +21,7 @@ pub returns-clause-part : goal.returns-clause-part
 returns-clause-part g c =
     let old = c.args.self.now in
     let n = g.C.Tokens.workers in
-    let role = role_of g.S.Spread.owner_of n old in
+    let role = role_of_part g.S.Spread.owner_of n old in
     let same = role_is g.S.Spread.owner_of n old c.requires c.workers-workers.result c.workers-workers.ensures c.context-context.result c.context-context.ensures.value in
     let step = subst (λ (r : Role). ExpandOnwardStep r (turn (state_of old.worker) (refusal_in c.expand.result) (state_of c.expand.new.self))) same (c.expand.ensures.step old.job.now.start) in
     with_kept g.S.Spread.owner_of n old c.requires c.expand.new.self

@@ -3,7 +3,7 @@ use Rattle.worker_core.specs.Roles.{guide_of}
 use Rattle.worker_core.specs.Workers.{state_of}
 use Rattle.world_model.specs.Turns.{refusal_in}
 use Rattle.hda_run.specs.Jobs.{task_in}
-use Rattle.thread_parts.specs.Parts.{part_state, role_of}
+use Rattle.thread_parts.specs.Parts.{part_state, role_of_part}
 use Rattle.thread_parts.proofs.PartLemmas.{with_kept, barred_rest}
 use Rattle.thread_parts.proofs.part.Part.rest.Goals as goal
 
@@ -18,19 +18,19 @@ rest-requires-clause-there g c κs within =
 pub returns-in-Err-clause-step : goal.returns-in-Err-clause-step
 returns-in-Err-clause-step g c =
     let old = c.args.self.now in
-    barred_rest (role_of g.S.Spread.owner_of g.C.Tokens.workers old) (state_of old.worker) c.args.book.now c.in-Err.refusal c.in-Err.ensures.refused
+    barred_rest (role_of_part g.S.Spread.owner_of g.C.Tokens.workers old) (state_of old.worker) c.args.book.now c.in-Err.refusal c.in-Err.ensures.refused
 
 pub returns-clause-step : goal.returns-clause-step
 returns-clause-step g c =
     let old = c.args.self.now in
-    let role = role_of g.S.Spread.owner_of g.C.Tokens.workers old in
+    let role = role_of_part g.S.Spread.owner_of g.C.Tokens.workers old in
     c.rest.ensures.step role (guide_of (task_in old.job.now)) (record { me = refl; ends = sym c.keyed_goal-goal.ensures.value }) c.requires.guided
 
 pub returns-clause-part : goal.returns-clause-part
 returns-clause-part g c =
     let old = c.args.self.now in
     let n = g.C.Tokens.workers in
-    let role = role_of g.S.Spread.owner_of n old in
+    let role = role_of_part g.S.Spread.owner_of n old in
     let task = task_in old.job.now in
     let step = c.rest.ensures.step role (guide_of task) (record { me = refl; ends = sym c.keyed_goal-goal.ensures.value }) c.requires.guided in
     with_kept g.S.Spread.owner_of n old c.requires c.rest.new.self

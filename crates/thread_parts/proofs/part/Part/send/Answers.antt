@@ -2,7 +2,7 @@ use Rattle.std.proofs.Common.{◌<◌, ◌≡◌, length, inl, inr, refl, sym, a
 use Rattle.std.proofs.lemmas.Result.{on_ok_weaker, on_err_weaker}
 use Rattle.rings.specs.Rings.{SenderModel}
 use Rattle.thread_model.specs.Parts.{Keeps}
-use Rattle.thread_parts.specs.Parts.{part_state, role_of}
+use Rattle.thread_parts.specs.Parts.{part_state, role_of_part}
 use Rattle.thread_parts.proofs.PartLemmas.{answered, sends, none_sent, out_kept, with_out, full_lane, at_full, send_by_ring, out_count, holds_after}
 use Rattle.thread_parts.proofs.part.Part.send.Goals as goal
 
@@ -38,8 +38,8 @@ returns-clause-part g c =
     ] in
     record {
       holds = holds_after owner_of n old c.requires.holds new refl refl (elim (answered c.send.result c.send.ensures.sent c.send.ensures.refused) [
-        | inl has ↦ c.steps_are_kept.ensures.send n to (role_of owner_of n old) (part_state old) (part_state new) c.requires.holds.role c.requires.there c.requires.holds.keeps (sends old to worker lane c.send.new.lane here there has)
-        | inr same ↦ subst (Keeps n (role_of owner_of n old)) (sym (none_sent old to worker lane c.send.new.lane here same.0 same.1)) c.requires.holds.keeps
+        | inl has ↦ c.steps_are_kept.ensures.send n to (role_of_part owner_of n old) (part_state old) (part_state new) c.requires.holds.role c.requires.there c.requires.holds.keeps (sends old to worker lane c.send.new.lane here there has)
+        | inr same ↦ subst (Keeps n (role_of_part owner_of n old)) (sym (none_sent old to worker lane c.send.new.lane here same.0 same.1)) c.requires.holds.keeps
       ]) c.send.ensures.lists;
       kept = out_kept c.args.self.now c.args.to c.send.new.self c.index_mut-lane.result.now c.send.new.lane c.index_mut-lane.ensures.value ring;
     }
