@@ -91,7 +91,7 @@ rest_left i floor x y fault call = passed_over _ _ _ _ call (λ some. passed_ove
 
 module _ (task : Task) (guide : Guide) (lists : SearchListsModel) (worker : WorkerState) (same : lists.closed.known ≡ worker.known) (is : IsGuided task guide lists) where
   -- an open board is open by its key, at the same cost plus sum
-  pub open_key : (b : BoardModel) (known : Known) → IsOpen task worker b known → orders.IsOpen guide lists.closed (search_key b) known
+  pub open_key : (b : BoardModel) (known : Known) → IsOpen task worker b known → orders.IsOpenKey guide lists.closed (search_key b) known
   open_key b known at = record {
     knows = ap (λ m. map.get m (search_key b)) same ∙ at.knows;
     unexpanded = at.unexpanded;
@@ -102,7 +102,7 @@ module _ (task : Task) (guide : Guide) (lists : SearchListsModel) (worker : Work
   same_sum b known at = ap (λ (n : ℕ). known.cost + n) (is.guides.sums b at.board)
 
   -- and the other way round
-  pub open_board : (key : ℕ) (known : Known) → orders.IsOpen guide lists.closed key known → (b : BoardModel) × IsOpen task worker b known × (search_key b ≡ key)
+  pub open_board : (key : ℕ) (known : Known) → orders.IsOpenKey guide lists.closed key known → (b : BoardModel) × IsOpen task worker b known × (search_key b ≡ key)
   open_board key known at =
       let found = is.boards key known at.knows in (
         found.0,
@@ -132,15 +132,15 @@ module _ (task : Task) (guide : Guide) (lists : SearchListsModel) (worker : Work
       omega (arith, lt, le, e, key, cost, adds)
 
   -- an open board of this cost plus sum, by its key and by itself
-  key_at : (f : ℕ) → ((b : BoardModel) × (known : Known) × IsOpen task worker b known × (known.cost + task.sum b ≡ f)) → (key : ℕ) × (known : Known) × orders.IsOpen guide lists.closed key known × (known.cost + guide.sum key ≡ f)
+  key_at : (f : ℕ) → ((b : BoardModel) × (known : Known) × IsOpen task worker b known × (known.cost + task.sum b ≡ f)) → (key : ℕ) × (known : Known) × orders.IsOpenKey guide lists.closed key known × (known.cost + guide.sum key ≡ f)
   key_at f at = (search_key at.0, at.1, open_key at.0 at.1 at.2, same_sum at.0 at.1 at.2 ∙ at.3)
 
-  board_at : (f : ℕ) → ((key : ℕ) × (known : Known) × orders.IsOpen guide lists.closed key known × (known.cost + guide.sum key ≡ f)) → (b : BoardModel) × (known : Known) × IsOpen task worker b known × (known.cost + task.sum b ≡ f)
+  board_at : (f : ℕ) → ((key : ℕ) × (known : Known) × orders.IsOpenKey guide lists.closed key known × (known.cost + guide.sum key ≡ f)) → (b : BoardModel) × (known : Known) × IsOpen task worker b known × (known.cost + task.sum b ≡ f)
   board_at f at =
       let board = open_board at.0 at.1 at.2 in
       (board.0, at.1, board.1, sym (same_sum board.0 at.1 board.1) ∙ ap (λ (k : ℕ). at.1.cost + guide.sum k) board.2 ∙ at.3)
 
-  pub same_floor : (floor : Option ℕ) → orders.IsFloor guide lists.closed floor → IsFloor task worker floor
+  pub same_floor : (floor : Option ℕ) → orders.IsFloorOfLists guide lists.closed floor → IsFloor task worker floor
   same_floor None none = λ f at. none f (key_at f at)
   same_floor (Some f) least = (board_at f least.0, λ g at. least.1 g (key_at g at))
 
