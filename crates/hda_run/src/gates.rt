@@ -33,7 +33,7 @@ pub enum Kind {
 
 /// Which of the nine steps it is.
 pub fn kind_of(step: Step) -> Kind
-    ensures { result ≡ kinds.kind_of step }
+    ensures { result ≡ kinds.step_kind_of step }
 {
     match step {
         Step::Expand(_) => Kind::Expand,
