@@ -117,7 +117,7 @@ fn is_read(alloc: Global, certificate: &Certificate, bytes: &[u8]) -> bool {
     }
 }
 
-const EXAMPLES: [Example; 9] = [
+static EXAMPLES: [Example; 9] = [
     Example {
         version: Version::One,
         sides: (2, 2),
@@ -227,18 +227,17 @@ fn made_of(rt: &(impl Abort + AllocGlobal), example: &Example) -> Certificate {
     Certificate::new(parts_of(rt, example)).expect(rt, "they have a spelling")
 }
 
+// Whether the certificate of an example is written as its bytes and read from them.
+fn is_written_and_read(rt: &(impl Abort + AllocGlobal), example: &Example) -> bool {
+    let certificate = made_of(rt, example);
+    is_written(rt.alloc(), &certificate, example.bytes)
+        && is_read(rt.alloc(), &certificate, example.bytes)
+}
+
 #[test]
 fn written_and_read(rt: HostRuntime) {
     for (row, example) in EXAMPLES.iter().enumerate() {
-        let certificate = made_of(&rt, example);
-        assert!(rt;
-            is_written(rt.alloc(), &certificate, example.bytes),
-            "row {row}"
-        );
-        assert!(rt;
-            is_read(rt.alloc(), &certificate, example.bytes),
-            "row {row}"
-        );
+        assert!(rt; is_written_and_read(&rt, example), "row {row}");
     }
 }
 

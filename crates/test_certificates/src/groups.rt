@@ -219,35 +219,34 @@ fn each_unfit_table(rt: HostRuntime) {
     }
 }
 
-// What is answered of a certificate with folded tables of these groups, by one thread and by
-// several.
+// What is answered of the certificate that bytes spell with folded tables of these groups, by one
+// thread and by several.
 fn answers_with_folded<R: Abort + AllocGlobal + Threads + Sync>(
     rt: &R,
-    certificate: &Certificate,
+    bytes: &[u8],
     groups: &[&[u8]],
 ) -> [Result<(), Refusal>; 2] {
+    let certificate = certificate_of(rt, bytes);
     let bound = bound_of(rt, &certificate.goal(), groups);
     let folded = bound.folded(rt.alloc()).expect(rt, "memory");
     [
-        check(certificate, &folded),
-        check_parallel(rt, certificate, &folded).unwrap(),
+        check(&certificate, &folded),
+        check_parallel(rt, &certificate, &folded).unwrap(),
     ]
 }
 
+// Bytes and groups whose folded tables are tried, and the answer. The first fit but for that they
+// are folded; the last are none, so that none is folded.
+static FOLDED: [(&[u8], &[&[u8]], Result<(), Refusal>); 2] = [
+    (&WITH_GROUPS, &[&[1], &[3]], Err(Refusal::UnfitGroup(0))),
+    (&GOAL, &[], Ok(())),
+];
+
 #[test]
 fn folded_tables(rt: HostRuntime) {
-    // Tables that fit but for that; and none, so that none is folded.
-    let rows: [(&[u8], &[&[u8]], Result<(), Refusal>); 2] = [
-        (&WITH_GROUPS, &[&[1], &[3]], Err(Refusal::UnfitGroup(0))),
-        (&GOAL, &[], Ok(())),
-    ];
-    for (bytes, groups, want) in rows {
-        let certificate = certificate_of(&rt, bytes);
-        assert_eq!(rt;
-            answers_with_folded(&rt, &certificate, groups),
-            [want; 2],
-            "{groups:?}"
-        );
+    for (bytes, groups, want) in &FOLDED {
+        let answers = answers_with_folded(&rt, bytes, groups);
+        assert_eq!(rt; answers, [*want; 2], "{groups:?}");
     }
 }
 
@@ -296,15 +295,20 @@ const ONE_GROUP: &[u8] = b"TILECRT1\x03\x03\x00\x01\x01\x01\
     \x00\x01\x02\x03\x04\x05\x06\x07\x08\x00\x01\x02\x03\x04\x05\x06\x07\x08\
     \x00\x00\x00\x00\x00\x00\x00\x00\x00\x00\x00\x00\x00\x00\x00\x00";
 
+// What is answered of `ONE_GROUP` with the value 3 in its table, with 4 there, and with its table
+// folded. A certificate is checked with whole tables.
+fn answers_to_one_group(rt: &(impl Abort + AllocGlobal)) -> [Result<(), Refusal>; 3] {
+    let certificate = certificate_of(rt, ONE_GROUP);
+    let bound = bound_for(rt, &certificate);
+    let table = first_table(&bound).expect(rt, "it has a group");
+    let fitting = answer_with_value(rt, &certificate, table, 3);
+    let too_high = answer_with_value(rt, &certificate, table, 4);
+    let folded = bound.folded(rt.alloc()).expect(rt, "memory");
+    [fitting, too_high, check(&certificate, &folded)]
+}
+
 #[test]
 fn one_value_too_high(rt: HostRuntime) {
-    let certificate = certificate_of(&rt, ONE_GROUP);
-    let bound = bound_for(&rt, &certificate);
-    let table = first_table(&bound).expect(&rt, "it has a group");
-    for (value, want) in [(3, Ok(())), (4, Err(Refusal::UnfitGroup(0)))] {
-        assert_eq!(rt; answer_with_value(&rt, &certificate, table, value), want);
-    }
-    // A certificate is checked with whole tables.
-    let folded = bound.folded(rt.alloc()).expect(&rt, "memory");
-    assert_eq!(rt; check(&certificate, &folded), Err(Refusal::UnfitGroup(0)));
+    let unfit = Err(Refusal::UnfitGroup(0));
+    assert_eq!(rt; answers_to_one_group(&rt), [Ok(()), unfit, unfit]);
 }
