@@ -56,7 +56,7 @@ pub(crate) const BOUND: [u8; 41] = [
 
 // From which byte to which `ONE_MOVE_ONE` is replaced, by what, and the code that the result is refused
 // by.
-const CHANGES: [(usize, usize, &[u8], &str); 13] = [
+static CHANGES: [(usize, usize, &[u8], &str); 13] = [
     (0, 1, &[0x55], "F1"),
     (44, 45, &[], "F2"),
     (29, 30, &[2], "F2"),
@@ -98,7 +98,7 @@ const CHANGES: [(usize, usize, &[u8], &str); 13] = [
 
 // By which code `ONE_MOVE_ONE` is refused where one of its bytes is 255: those below this place, and
 // from that of the row above on.
-const HIGH_BYTES: [(usize, &str); 8] = [
+static HIGH_BYTES: [(usize, &str); 8] = [
     (8, "F1"),
     (20, "F3"),
     // The lowest bytes of the cost.
@@ -151,9 +151,19 @@ fn certificate_of_hardest<R: Threads + Wait + AllocGlobal + Sync>(rt: &R) -> Opt
     let alloc = rt.alloc();
     let shape = Shape::new(3, 3).ok()?;
     let setup = Setup::new(alloc, Board::goal(shape), Weights::unit(shape));
-    let mut source = ByteSource::new("h 8 0 6 5 4 7 2 3 1\n".as_bytes());
+    certificate_with(rt, &setup, b"h 8 0 6 5 4 7 2 3 1\n")
+}
+
+// The certificate that is written of the first line, if one is.
+fn certificate_with<R: Threads + Wait + AllocGlobal + Sync>(
+    rt: &R,
+    setup: &Setup,
+    lines: &[u8],
+) -> Option<Vec<u8>> {
+    let alloc = rt.alloc();
+    let mut source = ByteSource::new(lines);
     let mut sink = ByteSink::new(Vec::new(alloc));
-    match run_cert(rt, alloc, &mut source, &mut sink, &setup, &Free) {
+    match run_cert(rt, alloc, &mut source, &mut sink, setup, &Free) {
         Ok(0) => Some(sink.into_inner()),
         _ => None,
     }
@@ -170,8 +180,9 @@ fn what_the_search_finds_is_accepted(rt: HostRuntime) {
 
 #[test]
 fn changed_certificates_are_refused(rt: HostRuntime) {
-    for (from, to, by, code) in CHANGES {
-        assert_eq!(rt; is_refused(&rt, from, to, by, code), Some(true), "{code}");
+    for (from, to, by, code) in &CHANGES {
+        let is_refused = is_refused(&rt, *from, *to, by, code);
+        assert_eq!(rt; is_refused, Some(true), "{code}");
     }
 }
 
@@ -189,11 +200,11 @@ fn certificates_that_end_early_are_refused(rt: HostRuntime) {
 #[test]
 fn high_bytes_are_refused(rt: HostRuntime) {
     let mut from = 0;
-    for (end, code) in HIGH_BYTES {
-        for place in from..end {
+    for (end, code) in &HIGH_BYTES {
+        for place in from..*end {
             let is_refused = is_refused(&rt, place, place + 1, &[255], code);
             assert_eq!(rt; is_refused, Some(true), "{place}");
         }
-        from = end;
+        from = *end;
     }
 }

@@ -8,7 +8,7 @@ use std::io::ErrorKind;
 use test_support::FailingReader;
 
 // Inputs, and the kinds of their lines, with the bytes of each that is within the limit.
-const SHORT: [(&[u8], &[(LineKind, &[u8])]); 8] = [
+static SHORT: [(&[u8], &[(LineKind, &[u8])]); 8] = [
     (b"", &[]),
     (b"\n", &[(PassedOver, b"")]),
     (b"\r", &[(PassedOver, b"")]),
@@ -36,7 +36,7 @@ const SHORT: [(&[u8], &[(LineKind, &[u8])]); 8] = [
 ];
 
 // Lines of one byte so many times and an end, and their kinds.
-const LONG: [(u8, usize, &[u8], LineKind); 9] = [
+static LONG: [(u8, usize, &[u8], LineKind); 9] = [
     (b'x', 1024, b"\r\n", Within),
     (b'x', 1024, b"", Within),
     (b'x', 1024, b"\r\r\n", TooLong),
@@ -77,19 +77,16 @@ fn is_one_line(alloc: Global, byte: u8, count: usize, end: &[u8], kind: LineKind
 
 #[test]
 fn inputs_are_cut_into_lines(rt: HostRuntime) {
-    for (place, (input, lines)) in SHORT.into_iter().enumerate() {
+    for (place, (input, lines)) in SHORT.iter().enumerate() {
         assert!(rt; is_cut(input, lines), "{place}");
     }
 }
 
 #[test]
 fn long_lines_are_cut_off(rt: HostRuntime) {
-    for (byte, count, end, kind) in LONG {
-        assert_eq!(rt;
-            is_one_line(rt.alloc(), byte, count, end, kind),
-            Some(true),
-            "{count} of {byte}"
-        );
+    for (byte, count, end, kind) in &LONG {
+        let is_one = is_one_line(rt.alloc(), *byte, *count, end, *kind);
+        assert_eq!(rt; is_one, Some(true), "{count} of {byte}");
     }
 }
 

@@ -6,8 +6,9 @@ ghost use Rattle.board.specs.Weights.{unit_rule};
 
 use crate::certificates::{BOUND, ONE_MOVE, ONE_MOVE_ONE, SOLVED, THREE_MOVES};
 use batch_cli::{
-    BatchFault, Cause, Free, LinesFault, Ruled, Setup, Solved, Solver, Stats, Style, Summary, Why,
-    run_batch, run_cert, run_check, run_lines, run_program, run_replay, run_show, run_upgrade,
+    BatchFault, Cause, CertifyFault, CheckFault, Free, LinesFault, Ruled, Setup, Solved, Solver,
+    Stats, Style, Summary, Why, run_batch, run_cert, run_check, run_lines, run_program, run_replay,
+    run_show, run_upgrade,
 };
 use board::{Board, Move, Shape, Weights};
 use board_lists::{Choice, list_boards};
@@ -125,198 +126,196 @@ struct Case {
     unwritten: &'static str,
 }
 
-fn cases() -> [Case; 22] {
-    [
-        Case {
-            run: Run::Lines,
-            input: LINES,
-            reads: 47,
-            output: b"{\"cost\":2,\"id\":\"a\",\"plan\":\"LU\",\"status\":\"optimal\"}\n\
+static CASES: [Case; 22] = [
+    Case {
+        run: Run::Lines,
+        input: LINES,
+        reads: 47,
+        output: b"{\"cost\":2,\"id\":\"a\",\"plan\":\"LU\",\"status\":\"optimal\"}\n\
                 {\"id\":\"b\",\"status\":\"unsolvable\",\"why\":\"parity\"}\n\
                 {\"best\":null,\"bound\":21,\"cause\":\"limit\",\"id\":\"c\",\"status\":\"bounded\"}\n\
                 {\"fault\":\"V3\",\"line\":4,\"status\":\"refused\"}\n\
                 {\"fault\":\"E2\",\"line\":5,\"status\":\"refused\"}\n",
-            status: 1,
-            unwritten: "tilesolve: B2\n",
-        },
-        Case {
-            run: Run::Batch,
-            input: b"b 1 2 3 0 4 5\nc 1 2 0 4 5 3\n",
-            reads: 29,
-            output: b"{\"cost\":9,\"id\":\"b\",\"plan\":\"RR\",\"status\":\"optimal\"}\n\
+        status: 1,
+        unwritten: "tilesolve: B2\n",
+    },
+    Case {
+        run: Run::Batch,
+        input: b"b 1 2 3 0 4 5\nc 1 2 0 4 5 3\n",
+        reads: 29,
+        output: b"{\"cost\":9,\"id\":\"b\",\"plan\":\"RR\",\"status\":\"optimal\"}\n\
                 {\"cost\":3,\"id\":\"c\",\"plan\":\"D\",\"status\":\"optimal\"}\n",
-            status: 0,
-            unwritten: "tilesolve: B2\n",
-        },
-        Case {
-            run: Run::Program,
-            input: b"1 1 2 0 3 4 5 6 7 8\nb 1\n#\n",
-            reads: 27,
-            output: b"{\"cost\":2,\"id\":\"1\",\"plan\":\"LL\",\"status\":\"optimal\"}\n\
+        status: 0,
+        unwritten: "tilesolve: B2\n",
+    },
+    Case {
+        run: Run::Program,
+        input: b"1 1 2 0 3 4 5 6 7 8\nb 1\n#\n",
+        reads: 27,
+        output: b"{\"cost\":2,\"id\":\"1\",\"plan\":\"LL\",\"status\":\"optimal\"}\n\
                 {\"fault\":\"E2\",\"line\":2,\"status\":\"refused\"}\n",
-            status: 1,
-            unwritten: "tilesolve: B2\n",
-        },
-        // What stands behind the line is not read.
-        Case {
-            run: Run::Certify,
-            input: b"\nr 1 0 2 3\n a 0 1 2 3",
-            reads: 11,
-            output: &ONE_MOVE,
-            status: 0,
-            unwritten: "tilesolve: F8\n",
-        },
-        Case {
-            run: Run::Certify,
-            input: b"a 0 1 2 3",
-            reads: 10,
-            output: &SOLVED,
-            status: 0,
-            unwritten: "tilesolve: F8\n",
-        },
-        Case {
-            run: Run::Certify,
-            input: b"x 1 3 0 2\n",
-            reads: 10,
-            output: &THREE_MOVES,
-            status: 0,
-            unwritten: "tilesolve: F8\n",
-        },
-        Case {
-            run: Run::Certify,
-            input: b"\nx 0 1 2\na 0 1 2 3\n",
-            reads: 9,
-            output: b"{\"fault\":\"E2\",\"line\":2,\"status\":\"refused\"}\n",
-            status: 1,
-            unwritten: "tilesolve: B2\n",
-        },
-        Case {
-            run: Run::Certify,
-            input: b"a 0 2 1 3\n",
-            reads: 10,
-            output: b"{\"id\":\"a\",\"status\":\"unsolvable\",\"why\":\"parity\"}\n",
-            status: 0,
-            unwritten: "tilesolve: B2\n",
-        },
-        Case {
-            run: Run::Certify,
-            input: b"# none\n",
-            reads: 8,
-            output: b"",
-            status: 0,
-            unwritten: "",
-        },
-        Case {
-            run: Run::Check,
-            input: &ONE_MOVE_ONE,
-            reads: 46,
-            output: b"{\"cost\":1,\"status\":\"accepted\"}\n",
-            status: 0,
-            unwritten: "tilesolve: B2\n",
-        },
-        Case {
-            run: Run::Check,
-            input: &SOLVED,
-            reads: 38,
-            output: b"{\"cost\":0,\"status\":\"accepted\"}\n",
-            status: 0,
-            unwritten: "tilesolve: B2\n",
-        },
-        Case {
-            run: Run::Check,
-            input: &BOUND,
-            reads: 42,
-            output: b"{\"bound\":1,\"status\":\"accepted\"}\n",
-            status: 0,
-            unwritten: "tilesolve: B2\n",
-        },
-        Case {
-            run: Run::Check,
-            input: b"TILECRT3",
-            reads: 8,
-            output: b"{\"fault\":\"F1\",\"status\":\"refused\"}\n",
-            status: 5,
-            unwritten: "tilesolve: B2\n",
-        },
-        Case {
-            run: Run::Show,
-            input: &ONE_MOVE_ONE,
-            reads: 46,
-            output: b"    start      1 L\n     1  .     .  1\n     2  3     2  3\n\n     \
+        status: 1,
+        unwritten: "tilesolve: B2\n",
+    },
+    // What stands behind the line is not read.
+    Case {
+        run: Run::Certify,
+        input: b"\nr 1 0 2 3\n a 0 1 2 3",
+        reads: 11,
+        output: &ONE_MOVE,
+        status: 0,
+        unwritten: "tilesolve: F8\n",
+    },
+    Case {
+        run: Run::Certify,
+        input: b"a 0 1 2 3",
+        reads: 10,
+        output: &SOLVED,
+        status: 0,
+        unwritten: "tilesolve: F8\n",
+    },
+    Case {
+        run: Run::Certify,
+        input: b"x 1 3 0 2\n",
+        reads: 10,
+        output: &THREE_MOVES,
+        status: 0,
+        unwritten: "tilesolve: F8\n",
+    },
+    Case {
+        run: Run::Certify,
+        input: b"\nx 0 1 2\na 0 1 2 3\n",
+        reads: 9,
+        output: b"{\"fault\":\"E2\",\"line\":2,\"status\":\"refused\"}\n",
+        status: 1,
+        unwritten: "tilesolve: B2\n",
+    },
+    Case {
+        run: Run::Certify,
+        input: b"a 0 2 1 3\n",
+        reads: 10,
+        output: b"{\"id\":\"a\",\"status\":\"unsolvable\",\"why\":\"parity\"}\n",
+        status: 0,
+        unwritten: "tilesolve: B2\n",
+    },
+    Case {
+        run: Run::Certify,
+        input: b"# none\n",
+        reads: 8,
+        output: b"",
+        status: 0,
+        unwritten: "",
+    },
+    Case {
+        run: Run::Check,
+        input: &ONE_MOVE_ONE,
+        reads: 46,
+        output: b"{\"cost\":1,\"status\":\"accepted\"}\n",
+        status: 0,
+        unwritten: "tilesolve: B2\n",
+    },
+    Case {
+        run: Run::Check,
+        input: &SOLVED,
+        reads: 38,
+        output: b"{\"cost\":0,\"status\":\"accepted\"}\n",
+        status: 0,
+        unwritten: "tilesolve: B2\n",
+    },
+    Case {
+        run: Run::Check,
+        input: &BOUND,
+        reads: 42,
+        output: b"{\"bound\":1,\"status\":\"accepted\"}\n",
+        status: 0,
+        unwritten: "tilesolve: B2\n",
+    },
+    Case {
+        run: Run::Check,
+        input: b"TILECRT3",
+        reads: 8,
+        output: b"{\"fault\":\"F1\",\"status\":\"refused\"}\n",
+        status: 5,
+        unwritten: "tilesolve: B2\n",
+    },
+    Case {
+        run: Run::Show,
+        input: &ONE_MOVE_ONE,
+        reads: 46,
+        output: b"    start      1 L\n     1  .     .  1\n     2  3     2  3\n\n     \
                 goal\n     .  1\n     2  3\n\nmoves: 1, cost: 1 (claimed to be least)\n",
-            status: 0,
-            unwritten: "tilesolve: B2\n",
-        },
-        Case {
-            run: Run::Show,
-            input: &BOUND,
-            reads: 42,
-            output: b"    start     goal\n     1  .     .  1\n     2  3     2  3\n\n\
+        status: 0,
+        unwritten: "tilesolve: B2\n",
+    },
+    Case {
+        run: Run::Show,
+        input: &BOUND,
+        reads: 42,
+        output: b"    start     goal\n     1  .     .  1\n     2  3     2  3\n\n\
                 bound: 1 (claimed: no plan costs less)\n",
-            status: 0,
-            unwritten: "tilesolve: B2\n",
-        },
-        Case {
-            run: Run::Show,
-            input: b"TILECRT3",
-            reads: 8,
-            output: b"{\"fault\":\"F1\",\"status\":\"refused\"}\n",
-            status: 5,
-            unwritten: "tilesolve: B2\n",
-        },
-        Case {
-            run: Run::Upgrade,
-            input: &ONE_MOVE_ONE,
-            reads: 46,
-            output: &ONE_MOVE,
-            status: 0,
-            unwritten: "tilesolve: F8\n",
-        },
-        Case {
-            run: Run::Upgrade,
-            input: &BOUND,
-            reads: 42,
-            output: &BOUND,
-            status: 0,
-            unwritten: "tilesolve: F8\n",
-        },
-        Case {
-            run: Run::Upgrade,
-            input: b"TILECRT3",
-            reads: 8,
-            output: b"",
-            status: 5,
-            unwritten: "",
-        },
-        // A step is answered where its line is whole, and the report stands behind the end.
-        Case {
-            run: Run::Replay,
-            input: b"r 1 0 2 3\ngrant 0\nrest 1\nexpand\nexpand 0\nannounce 0\nrest 0",
-            reads: 59,
-            output: b"ok\nS15\nB4\nok\nok\nok\n\
+        status: 0,
+        unwritten: "tilesolve: B2\n",
+    },
+    Case {
+        run: Run::Show,
+        input: b"TILECRT3",
+        reads: 8,
+        output: b"{\"fault\":\"F1\",\"status\":\"refused\"}\n",
+        status: 5,
+        unwritten: "tilesolve: B2\n",
+    },
+    Case {
+        run: Run::Upgrade,
+        input: &ONE_MOVE_ONE,
+        reads: 46,
+        output: &ONE_MOVE,
+        status: 0,
+        unwritten: "tilesolve: F8\n",
+    },
+    Case {
+        run: Run::Upgrade,
+        input: &BOUND,
+        reads: 42,
+        output: &BOUND,
+        status: 0,
+        unwritten: "tilesolve: F8\n",
+    },
+    Case {
+        run: Run::Upgrade,
+        input: b"TILECRT3",
+        reads: 8,
+        output: b"",
+        status: 5,
+        unwritten: "",
+    },
+    // A step is answered where its line is whole, and the report stands behind the end.
+    Case {
+        run: Run::Replay,
+        input: b"r 1 0 2 3\ngrant 0\nrest 1\nexpand\nexpand 0\nannounce 0\nrest 0",
+        reads: 59,
+        output: b"ok\nS15\nB4\nok\nok\nok\n\
                 {\"cost\":1,\"id\":\"r\",\"plan\":\"L\",\"status\":\"optimal\"}\n",
-            status: 1,
-            unwritten: "tilesolve: B2\n",
-        },
-        Case {
-            run: Run::Replay,
-            input: b"x 1 0 2\ngrant 0\n",
-            reads: 8,
-            output: b"{\"fault\":\"E2\",\"line\":1,\"status\":\"refused\"}\n",
-            status: 1,
-            unwritten: "tilesolve: B2\n",
-        },
-        Case {
-            run: Run::Boards,
-            input: b"",
-            reads: 0,
-            output: b"b1 0 1 2 3\nb2 0 1 2 3\nb3 0 1 2 3\nb4 0 1 2 3\nb5 0 1 2 3\nb6 0 1 2 3\n\
+        status: 1,
+        unwritten: "tilesolve: B2\n",
+    },
+    Case {
+        run: Run::Replay,
+        input: b"x 1 0 2\ngrant 0\n",
+        reads: 8,
+        output: b"{\"fault\":\"E2\",\"line\":1,\"status\":\"refused\"}\n",
+        status: 1,
+        unwritten: "tilesolve: B2\n",
+    },
+    Case {
+        run: Run::Boards,
+        input: b"",
+        reads: 0,
+        output: b"b1 0 1 2 3\nb2 0 1 2 3\nb3 0 1 2 3\nb4 0 1 2 3\nb5 0 1 2 3\nb6 0 1 2 3\n\
                 b7 0 1 2 3\nb8 0 1 2 3\nb9 0 1 2 3\nb10 0 1 2 3\n",
-            status: 0,
-            unwritten: "tilesolve: B2\n",
-        },
-    ]
-}
+        status: 0,
+        unwritten: "tilesolve: B2\n",
+    },
+];
 
 impl Case {
     // What is told where the input cannot be read.
@@ -468,45 +467,76 @@ fn start<R: Threads + Wait + AllocGlobal + Sync>(
 {
     let alloc = rt.alloc();
     match run {
-        Run::Lines => {
-            let shape = square();
-            let solver = ByBlank { alloc, shape };
-            tell_counts(run_lines(alloc, source, sink, &solver), errors)
-        }
-        Run::Batch => match setup_of_faces(alloc) {
-            Some(setup) => {
-                let counts = run_batch(rt, alloc, source, sink, &setup, &Free);
-                tell_counts(counts, errors)
-            }
-            // No run ends so.
-            None => 255,
-        },
+        Run::Lines => tell_counts(report_lines(alloc, source, sink), errors),
+        Run::Batch => report_batch(rt, alloc, source, sink, errors),
         Run::Program => run_program(rt, alloc, &[], source, sink, errors),
-        Run::Certify => {
-            let setup = setup_of_square(alloc);
-            tell_status(run_cert(rt, alloc, source, sink, &setup, &Free), errors)
-        }
+        Run::Certify => tell_status(certify_square(rt, alloc, source, sink), errors),
         Run::Check => tell_status(run_check(rt, alloc, source, sink), errors),
-        Run::Show => {
-            let style = Style::Text { width: 24 };
-            tell_status(run_show(alloc, style, source, sink), errors)
-        }
+        Run::Show => tell_status(show_narrow(alloc, source, sink), errors),
         Run::Upgrade => tell_status(run_upgrade(alloc, source, sink), errors),
-        Run::Replay => {
-            let setup = setup_of_square(alloc);
-            tell_status(run_replay(rt, alloc, source, sink, &setup), errors)
-        }
-        Run::Boards => {
-            let walks = Choice::Walked {
-                moves: 12,
-                count: 10,
-                seed: 0,
-            };
-            match list_boards(sink, &Board::goal(square()), walks) {
-                Ok(()) => 0,
-                Err(_) => batch_cli::Ending::Faulted(BatchFault::Write).tell(errors),
-            }
-        }
+        Run::Replay => tell_status(replay_square(rt, alloc, source, sink), errors),
+        Run::Boards => list_walks(sink, errors),
+    }
+}
+
+fn report_lines(
+    alloc: Global,
+    source: &mut ByteSource<FailingReader>,
+    sink: &mut ByteSink<FailingWriter>,
+) -> Result<Summary, LinesFault> {
+    let shape = square();
+    run_lines(alloc, source, sink, &ByBlank { alloc, shape })
+}
+
+fn report_batch<R: Threads + Wait + Sync>(
+    rt: &R,
+    alloc: Global,
+    source: &mut ByteSource<FailingReader>,
+    sink: &mut ByteSink<FailingWriter>,
+    errors: &mut ByteSink<FailingWriter>,
+) -> u8 {
+    let Some(setup) = setup_of_faces(alloc) else {
+        // No run ends so.
+        return 255;
+    };
+    tell_counts(run_batch(rt, alloc, source, sink, &setup, &Free), errors)
+}
+
+fn certify_square<R: Threads + Wait + Sync>(
+    rt: &R,
+    alloc: Global,
+    source: &mut ByteSource<FailingReader>,
+    sink: &mut ByteSink<FailingWriter>,
+) -> Result<u8, CertifyFault> {
+    run_cert(rt, alloc, source, sink, &setup_of_square(alloc), &Free)
+}
+
+fn show_narrow(
+    alloc: Global,
+    source: &mut ByteSource<FailingReader>,
+    sink: &mut ByteSink<FailingWriter>,
+) -> Result<u8, CheckFault> {
+    run_show(alloc, Style::Text { width: 24 }, source, sink)
+}
+
+fn replay_square<R: Threads + Sync>(
+    rt: &R,
+    alloc: Global,
+    source: &mut ByteSource<FailingReader>,
+    sink: &mut ByteSink<FailingWriter>,
+) -> Result<u8, LinesFault> {
+    run_replay(rt, alloc, source, sink, &setup_of_square(alloc))
+}
+
+fn list_walks(sink: &mut ByteSink<FailingWriter>, errors: &mut ByteSink<FailingWriter>) -> u8 {
+    let walks = Choice::Walked {
+        moves: 12,
+        count: 10,
+        seed: 0,
+    };
+    match list_boards(sink, &Board::goal(square()), walks) {
+        Ok(()) => 0,
+        Err(_) => batch_cli::Ending::Faulted(BatchFault::Write).tell(errors),
     }
 }
 
@@ -605,8 +635,8 @@ fn first_wrong_end<R: Threads + Wait + AllocGlobal + Sync>(
 
 #[test]
 fn each_call_of_a_run_fails_in_turn(rt: HostRuntime) {
-    for case in cases() {
-        assert_eq!(rt; first_wrong_end(&rt, &case), None, "{:?}", case.run);
+    for case in &CASES {
+        assert_eq!(rt; first_wrong_end(&rt, case), None, "{:?}", case.run);
     }
 }
 
@@ -676,10 +706,21 @@ fn reports_by<R: Threads + Wait + Sync>(
     let shape = Shape::new(2, held.cols).ok()?;
     let plain = Setup::new(alloc, Board::goal(shape), Weights::unit(shape));
     let setup = plain.limit(held.limit).workers(workers).ok()?;
-    let mut source = BufferedSource::new(alloc, held.lines).ok()?;
+    reports_with(rt, alloc, held.lines, &setup)
+}
+
+fn reports_with<R: Threads + Wait + Sync>(
+    rt: &R,
+    alloc: Global,
+    lines: &[u8],
+    setup: &Setup,
+) -> Option<Vec<u8>> {
+    let mut source = BufferedSource::new(alloc, lines).ok()?;
     let mut sink = ByteSink::new(Vec::new(alloc));
-    run_batch(rt, alloc, &mut source, &mut sink, &setup, &Free).ok()?;
-    Some(sink.into_inner())
+    match run_batch(rt, alloc, &mut source, &mut sink, setup, &Free) {
+        Ok(_) => Some(sink.into_inner()),
+        Err(_) => None,
+    }
 }
 
 #[test]
