@@ -678,7 +678,7 @@ struct Held {
     limit: u64,
 }
 
-const HELD: [Held; 3] = [
+static HELD: [Held; 3] = [
     Held {
         cols: 2,
         lines: MANY_LINES,

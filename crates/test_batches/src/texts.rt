@@ -25,7 +25,7 @@ fn text_of(alloc: Global, partition: &Partition) -> Result<String, Fail> {
 }
 
 // Shapes, and their default groups.
-const DEFAULTS: [(u8, u8, &str); 10] = [
+static DEFAULTS: [(u8, u8, &str); 10] = [
     (2, 2, "1,2/3"),
     (2, 3, "1,2/3,4/5"),
     (2, 4, "1,2,3,4/5,6,7"),
@@ -42,21 +42,26 @@ const DEFAULTS: [(u8, u8, &str); 10] = [
     ),
 ];
 
+// The default groups of a shape, as a text.
+fn default_text(alloc: Global, rows: u8, cols: u8) -> Result<String, Fail> {
+    let groups = default_groups(alloc, Shape::new(rows, cols)?)?;
+    text_of(alloc, &groups)
+}
+
 #[test]
 fn groups_of_each_shape(rt: HostRuntime) -> Result<(), Fail> {
     let alloc = rt.alloc();
-    for (rows, cols, wanted) in DEFAULTS {
-        for (rows, cols) in [(rows, cols), (cols, rows)] {
-            let groups = default_groups(alloc, Shape::new(rows, cols)?)?;
-            let text = text_of(alloc, &groups)?;
-            assert_eq!(rt; text.as_str(), wanted);
+    for (rows, cols, wanted) in &DEFAULTS {
+        for (rows, cols) in [(*rows, *cols), (*cols, *rows)] {
+            let text = default_text(alloc, rows, cols)?;
+            assert_eq!(rt; text.as_str(), *wanted);
         }
     }
     Ok(())
 }
 
 // The side of a square shape, a text, and the groups that it says or the code that refuses it.
-const GROUPS: [(u8, &str, &str); 27] = [
+static GROUPS: [(u8, &str, &str); 27] = [
     (3, "none", ""),
     (3, "1,2/3", "1,2/3"),
     (3, "4,2,3", "2,3,4"),
@@ -90,23 +95,25 @@ const GROUPS: [(u8, &str, &str); 27] = [
     ),
 ];
 
+// Whether a text says these groups of a square shape, or is refused by this code.
+fn says_groups(alloc: Global, side: u8, text: &str, wanted: &str) -> Result<bool, Fail> {
+    match read_groups(alloc, Shape::new(side, side)?, text) {
+        Ok(groups) => Ok(text_of(alloc, &groups)?.as_str() == wanted),
+        Err(fault) => Ok(fault.code() == wanted),
+    }
+}
+
 #[test]
 fn groups_of_texts(rt: HostRuntime) -> Result<(), Fail> {
     let alloc = rt.alloc();
-    for (side, text, wanted) in GROUPS {
-        match read_groups(alloc, Shape::new(side, side)?, text) {
-            Ok(groups) => {
-                let read = text_of(alloc, &groups)?;
-                assert_eq!(rt; read.as_str(), wanted);
-            }
-            Err(fault) => assert_eq!(rt; fault.code(), wanted),
-        }
+    for (side, text, wanted) in &GROUPS {
+        assert!(rt; says_groups(alloc, *side, text, wanted)?, "{text}");
     }
     Ok(())
 }
 
 // Texts, and "ok" or the codes by which they are refused as goals of 2 by 2.
-const GOALS: [(&str, &str); 10] = [
+static GOALS: [(&str, &str); 10] = [
     ("1,2,3,0", "ok"),
     ("01,2,3,0", "ok"),
     ("1,2,3", "E2"),
@@ -121,12 +128,12 @@ const GOALS: [(&str, &str); 10] = [
 
 #[test]
 fn goals_of_texts(rt: HostRuntime) -> Result<(), Fail> {
-    for (text, wanted) in GOALS {
+    for (text, wanted) in &GOALS {
         let read = match read_goal(Shape::new(2, 2)?, text) {
             Ok(_) => "ok",
             Err(fault) => fault.code(),
         };
-        assert_eq!(rt; read, wanted);
+        assert_eq!(rt; read, *wanted);
     }
     Ok(())
 }

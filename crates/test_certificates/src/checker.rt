@@ -55,7 +55,7 @@ fn expect_answer<R: Abort + AllocGlobal + Threads + Sync>(rt: &R, bytes: &[u8], 
 }
 
 // Bytes, and what is answered for them.
-const ANSWERS: [(&[u8], Answer); 23] = [
+static ANSWERS: [(&[u8], Answer); 23] = [
     (&GOAL, Ok(Ok(()))),
     (&ONE_MOVE, Ok(Ok(()))),
     (&THREE_MOVES, Ok(Ok(()))),
@@ -136,7 +136,7 @@ fn changed(place: usize, bytes: &[u8]) -> [u8; 79] {
 }
 
 // The place of a change, the bytes there, and what is answered then.
-const CHANGES: [(usize, &[u8], Answer); 13] = [
+static CHANGES: [(usize, &[u8], Answer); 13] = [
     // Another text in front.
     (7, b"3", Err(ReadFault::Format(FormatFault::OtherMagic))),
     // The number of rows where a claim is due.
@@ -219,7 +219,7 @@ fn accepted_changes<R: Abort + AllocGlobal + Threads + Sync>(
 
 // Certificates, and the changes after which they are accepted. The one move is of tile 1, so its
 // face cost is 1 too. Three moves with groups cost 6.
-const ACCEPTED: [(&[u8], &[(usize, u8)]); 3] = [
+static ACCEPTED: [(&[u8], &[(usize, u8)]); 3] = [
     (&ONE_MOVE, &[(KIND, 1)]),
     (&WITH_GROUPS, &[]),
     (&ONE_MOVE_TWO, &[(KIND_OF_TWO, 1)]),

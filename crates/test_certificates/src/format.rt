@@ -242,7 +242,7 @@ fn written_and_read(rt: HostRuntime) {
 }
 
 // Bytes, and those of their certificate in version 2.
-const UPGRADES: [(&[u8], &[u8]); 3] = [
+static UPGRADES: [(&[u8], &[u8]); 3] = [
     (&ONE_MOVE, &ONE_MOVE_TWO),
     (&ONE_MOVE_TWO, &ONE_MOVE_TWO),
     (&BOUND_OF_1, &BOUND_OF_1),

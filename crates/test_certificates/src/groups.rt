@@ -74,7 +74,7 @@ pub(crate) fn certificate_of(rt: &(impl Abort + AllocGlobal), bytes: &[u8]) -> C
 }
 
 // Bytes, and why they are no certificate.
-const FAULTS: [(&[u8], FormatFault); 15] = [
+static FAULTS: [(&[u8], FormatFault); 15] = [
     // 25 groups, and 24 of which none is there.
     (b"TILECRT1\x02\x02\x00\x19", FormatFault::OutOfRange),
     (b"TILECRT1\x02\x02\x00\x18", FormatFault::Truncated),
@@ -144,7 +144,7 @@ struct WithTables {
     answer: Result<(), Refusal>,
 }
 
-const TABLES: [WithTables; 8] = [
+static TABLES: [WithTables; 8] = [
     WithTables {
         bytes: &WITH_GROUPS,
         side: 2,
