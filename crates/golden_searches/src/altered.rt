@@ -131,11 +131,20 @@ impl Tally {
 
     // Prints it on one line behind these words.
     fn print<R: Print>(&self, rt: &R, words: &str) -> io::Result<()> {
-        let [up, left, right, down] = self.open;
+        print!(rt; "{words}: accepted {}, ", self.accepted)?;
+        self.print_open(rt)?;
         println!(rt;
-            "{words}: accepted {}, open by U {up} L {left} R {right} D {down}, places {}, else {}; \
-            several threads differ {}",
-            self.accepted, self.places, self.others, self.differing
+            ", else {}; several threads differ {}",
+            self.others, self.differing
+        )
+    }
+
+    // Prints how many open successors there were, by which moves, and their places.
+    fn print_open<R: Print>(&self, rt: &R) -> io::Result<()> {
+        let [up, left, right, down] = self.open;
+        print!(rt;
+            "open by U {up} L {left} R {right} D {down}, places {}",
+            self.places
         )
     }
 }

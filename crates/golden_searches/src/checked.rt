@@ -2,6 +2,7 @@
 //! the checker has to accept the plan: with the tables of the search built anew, with these folded,
 //! and with tables of other problems.
 
+ghost use Rattle.std.specs.Prelude.{◌≡◌, IfSome};
 ghost use Rattle.lower_bound.specs.Tables.{ArePotentials};
 
 use crate::problems::{Costs, Problem, certificate_of, job_of, problem_at};
@@ -70,19 +71,50 @@ pub fn print_checked<R: Threads + Wait + Print + AllocGlobal + Sync>(rt: &R) -> 
     let Some(problem) = problem_at(Costs::Unit) else {
         return Err(ErrorKind::InvalidData.into());
     };
-    let Some(bound) = bound_of(rt.alloc(), &problem.goal, &problem.weights, &GROUPS) else {
-        return Err(ErrorKind::OutOfMemory.into());
-    };
-    rt.println("## Guided by whole tables\n")?;
-    for judge in Judge::ALL {
-        print_judge(rt, &problem, &bound, judge)?;
+    print_guided(rt, &problem, false, &Judge::ALL)?;
+    print_guided(rt, &problem, true, &[Judge::Own, Judge::OwnFolded])
+}
+
+// Prints it for these judges where tables guide the search, which may be folded.
+fn print_guided<R: Threads + Wait + Print + AllocGlobal + Sync>(
+    rt: &R,
+    problem: &Problem,
+    fold: bool,
+    judges: &[Judge],
+) -> io::Result<()>
+    requires { problem.now.weights.grid ≡ problem.now.goal.grid }
+{
+    match guide_of(rt.alloc(), problem, fold) {
+        Some(bound) if fold => print_judges(rt, problem, &bound, "folded", judges),
+        Some(bound) => print_judges(rt, problem, &bound, "whole", judges),
+        None => Err(ErrorKind::OutOfMemory.into()),
     }
-    let Ok(folded) = bound.folded(rt.alloc()) else {
-        return Err(ErrorKind::OutOfMemory.into());
-    };
-    rt.println("## Guided by folded tables\n")?;
-    for judge in [Judge::Own, Judge::OwnFolded] {
-        print_judge(rt, &problem, &folded, judge)?;
+}
+
+// The tables that guide the search, or None where memory was refused.
+fn guide_of(alloc: Global, problem: &Problem, fold: bool) -> Option<Bound>
+    requires { problem.now.weights.grid ≡ problem.now.goal.grid }
+    ensures { IfSome result (ArePotentials problem.now.weights problem.now.goal) }
+{
+    let whole = bound_of(alloc, &problem.goal, &problem.weights, &GROUPS)?;
+    if fold {
+        return whole.folded(alloc).ok();
+    }
+    Some(whole)
+}
+
+fn print_judges<R: Threads + Wait + Print + AllocGlobal + Sync>(
+    rt: &R,
+    problem: &Problem,
+    bound: &Bound,
+    kind: &str,
+    judges: &[Judge],
+) -> io::Result<()>
+    requires potentials { ArePotentials problem.now.weights problem.now.goal bound.now }
+{
+    println!(rt; "## Guided by {kind} tables\n")?;
+    for judge in judges {
+        print_judge(rt, problem, bound, *judge)?;
     }
     Ok(())
 }
@@ -95,16 +127,33 @@ fn print_judge<R: Threads + Wait + Print + AllocGlobal + Sync>(
 ) -> io::Result<()>
     requires potentials { ArePotentials problem.now.weights problem.now.goal bound.now }
 {
-    let Some(tables) = tables_of(rt.alloc(), judge) else {
-        return Err(ErrorKind::OutOfMemory.into());
-    };
-    let verdict = verdict_on_plan(rt.alloc(), problem, bound, &tables);
+    match tables_of(rt.alloc(), judge) {
+        Some(tables) => print_answers(rt, problem, bound, judge, &tables),
+        None => Err(ErrorKind::OutOfMemory.into()),
+    }
+}
+
+// Prints the verdict on the plan, and what workers answer, where the checker has these tables.
+fn print_answers<R: Threads + Wait + Print + AllocGlobal + Sync>(
+    rt: &R,
+    problem: &Problem,
+    bound: &Bound,
+    judge: Judge,
+    tables: &Bound,
+) -> io::Result<()>
+    requires potentials { ArePotentials problem.now.weights problem.now.goal bound.now }
+{
+    let verdict = verdict_on_plan(rt.alloc(), problem, bound, tables);
     println!(rt; "# {}: {verdict:?}", judge.words())?;
     for workers in WORKERS {
-        let answer = checked_answer(rt, rt.alloc(), problem, bound, workers, &tables);
-        println!(rt; "workers {workers}: {answer:?}")?;
+        let answer = checked_answer(rt, rt.alloc(), problem, bound, workers, tables);
+        print_answer(rt, workers, answer)?;
     }
     rt.println("")
+}
+
+fn print_answer(rt: &impl Print, workers: usize, answer: Answer) -> io::Result<()> {
+    println!(rt; "workers {workers}: {answer:?}")
 }
 
 // The tables of a judge, or None where memory was refused.

@@ -10,12 +10,13 @@ mod boards;
 mod lines;
 mod tables;
 
+use batch_runs::Setup;
 use board::{Board, Shape, Weights};
 use boards::{Tally, compare_on_a_walk, tally_boards};
 use byte_streams::{ByteSink, ByteSource};
 use certificate_runs::run_check;
 use hda_run::Free;
-use lines::{Asked, CERTIFIED, LINES, print_report, setup_of};
+use lines::{Asked, CERTIFIED, LINES, print_report, print_text, setup_of};
 use setup_runs::run_cert;
 use std::io::{self, ErrorKind, Print};
 use std::sync::Wait;
@@ -104,9 +105,17 @@ fn certificate_of<R: Threads + Wait + AllocGlobal + Sync>(
     asked: &Asked,
 ) -> Option<Vec<u8>> {
     let setup = setup_of(rt, rt.alloc(), asked)?;
-    let mut source = ByteSource::new(asked.line.as_bytes());
+    certificate_by(rt, &setup, asked.line)
+}
+
+fn certificate_by<R: Threads + Wait + AllocGlobal + Sync>(
+    rt: &R,
+    setup: &Setup,
+    line: &str,
+) -> Option<Vec<u8>> {
+    let mut source = ByteSource::new(line.as_bytes());
     let mut sink = ByteSink::new(Vec::new(rt.alloc()));
-    run_cert(rt, rt.alloc(), &mut source, &mut sink, &setup, &Free).ok()?;
+    run_cert(rt, rt.alloc(), &mut source, &mut sink, setup, &Free).ok()?;
     Some(sink.into_inner())
 }
 
@@ -116,9 +125,5 @@ fn print_verdict<R: Print + AllocGlobal + Threads + Sync>(rt: &R, bytes: &[u8]) 
     let Ok(_) = run_check(rt, rt.alloc(), &mut ByteSource::new(bytes), &mut sink) else {
         return Err(ErrorKind::InvalidData.into());
     };
-    let report = sink.into_inner();
-    let Ok(text) = str::from_utf8(report.as_slice()) else {
-        return Err(ErrorKind::InvalidData.into());
-    };
-    rt.println(text)
+    print_text(rt, sink.into_inner().as_slice())
 }

@@ -19,6 +19,9 @@ const BOARDS: u32 = 200;
 
 const STEPS: u32 = 61;
 
+// The groups whose tables guide the search for these.
+const WALKED_GROUPS: [&[u8]; 2] = [&[1, 2, 3, 4], &[5, 6, 7, 8]];
+
 /// How many partitions guided the search, how many plans were right and what they cost in all, how
 /// many boards were rightly said to have none, and how many answers were wrong.
 #[derive(Clone, Copy, Debug)]
@@ -81,13 +84,28 @@ fn tally_partition<R: Threads + Sync>(
     let whole = bound_of(rt, alloc, goal, weights, groups)?;
     let guide = guide_of(rt, alloc, goal, weights, groups, fold)?;
     tally.partitions = tally.partitions.saturating_add(1);
+    count_all(tally, alloc, goal, weights, &guide, &whole, boards)
+}
+
+// Counts what is answered of these boards.
+fn count_all(
+    tally: &mut Tally,
+    alloc: Global,
+    goal: &Board,
+    weights: &Weights,
+    guide: &Bound,
+    whole: &Bound,
+    boards: &[(Board, Option<u32>)],
+) -> Option<()>
+    requires { Guides goal.now weights.now guide.now }
+{
     for (start, least) in boards {
         let problem = Problem {
             start: *start,
             goal: *goal,
             weights: *weights,
         };
-        count(tally, alloc, &problem, &guide, &whole, *least)?;
+        count(tally, alloc, &problem, guide, whole, *least)?;
     }
     Some(())
 }
@@ -172,11 +190,19 @@ pub struct Agreed {
 /// a walk from the goal; or None where memory was refused.
 pub fn compare_on_a_walk<R: Threads + Sync>(rt: &R, alloc: Global) -> Option<Agreed> {
     let shape = Shape::new(3, 3).ok()?;
-    let goal = Board::goal(shape);
-    let lists: [&[u8]; 2] = [&[1, 2, 3, 4], &[5, 6, 7, 8]];
-    let weights = Weights::unit(shape);
-    let whole = guide_of(rt, alloc, &goal, &weights, &lists, false)?;
-    let folded = guide_of(rt, alloc, &goal, &weights, &lists, true)?;
+    compare_tables(rt, alloc, Board::goal(shape), Weights::unit(shape))
+}
+
+fn compare_tables<R: Threads + Sync>(
+    rt: &R,
+    alloc: Global,
+    goal: Board,
+    weights: Weights,
+) -> Option<Agreed>
+    requires { weights.grid ≡ goal.grid }
+{
+    let whole = guide_of(rt, alloc, &goal, &weights, &WALKED_GROUPS, false)?;
+    let folded = guide_of(rt, alloc, &goal, &weights, &WALKED_GROUPS, true)?;
     compare(alloc, goal, weights, &whole, &folded)
 }
 

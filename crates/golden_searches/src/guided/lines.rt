@@ -198,19 +198,35 @@ pub fn print_report<R: Print + AllocGlobal + Threads + Wait + Sync>(
     asked: &Asked,
 ) -> io::Result<()> {
     asked.print(rt)?;
-    let Some(setup) = setup_of(rt, rt.alloc(), asked) else {
-        return Err(ErrorKind::InvalidData.into());
-    };
-    let mut source = ByteSource::new(asked.line.as_bytes());
+    match report_of(rt, asked) {
+        Some(report) => print_text(rt, report.as_slice()),
+        None => Err(ErrorKind::InvalidData.into()),
+    }
+}
+
+// The report of a line, or None where memory was refused.
+fn report_of<R: AllocGlobal + Threads + Wait + Sync>(rt: &R, asked: &Asked) -> Option<Vec<u8>> {
+    let setup = setup_of(rt, rt.alloc(), asked)?;
+    report_by(rt, &setup, asked.line)
+}
+
+fn report_by<R: AllocGlobal + Threads + Wait + Sync>(
+    rt: &R,
+    setup: &Setup,
+    line: &str,
+) -> Option<Vec<u8>> {
+    let mut source = ByteSource::new(line.as_bytes());
     let mut sink = ByteSink::new(Vec::new(rt.alloc()));
-    let Ok(_) = run_batch(rt, rt.alloc(), &mut source, &mut sink, &setup, &Free) else {
-        return Err(ErrorKind::InvalidData.into());
-    };
-    let report = sink.into_inner();
-    let Ok(text) = str::from_utf8(report.as_slice()) else {
-        return Err(ErrorKind::InvalidData.into());
-    };
-    rt.println(text)
+    run_batch(rt, rt.alloc(), &mut source, &mut sink, setup, &Free).ok()?;
+    Some(sink.into_inner())
+}
+
+/// Prints bytes that are UTF-8.
+pub fn print_text(rt: &impl Print, bytes: &[u8]) -> io::Result<()> {
+    match str::from_utf8(bytes) {
+        Ok(text) => rt.println(text),
+        Err(_) => Err(ErrorKind::InvalidData.into()),
+    }
 }
 
 /// The setup of a line's batch, or None where memory was refused.
