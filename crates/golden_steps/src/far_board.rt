@@ -1,13 +1,16 @@
 //! What workers in threads answer of a board that is as far from the goal as one of 3 by 3 can be:
 //! how often its cost, by one worker and by more, and how often the world of joined threads is kept.
 
+ghost use Rattle.lower_bound.specs.Tables.{ArePotentials};
+
 use hda_run::Free;
+use lower_bound::Bound;
 use std::alloc::Global;
 use std::io::{self, ErrorKind, Print};
 use std::sync::Wait;
 use std::thread::Threads;
 use test_worlds::{
-    Answer, Division, FAR_GROUPS, FAR_START, Team, answer_of_threads, answer_with_rows,
+    Answer, Division, FAR_GROUPS, FAR_START, Problem, Team, answer_of_threads, answer_with_rows,
     answer_without_rows, bound_of, far_problem,
 };
 
@@ -44,6 +47,10 @@ pub fn print_counts<R: Threads + Wait + Print + AllocGlobal + Sync>(rt: &R) -> i
     for workers in 1..17 {
         print_both(rt, workers, &FAR_GROUPS, RUNS)?;
     }
+    print_kept(rt)
+}
+
+fn print_kept<R: Threads + Wait + Print + AllocGlobal + Sync>(rt: &R) -> io::Result<()> {
     println!(rt; "# By 2 to 16 threads alone, with tables, {RUNS} runs each")?;
     let Some(count) = count_kept(rt, rt.alloc()) else {
         return Err(ErrorKind::OutOfMemory.into());
@@ -63,15 +70,20 @@ fn print_both<R: Threads + Wait + Print + AllocGlobal + Sync>(
 ) -> io::Result<()> {
     for division in Division::HASHED {
         let team = Team { workers, division };
-        let Some(Count { proved, found }) = count_runs(rt, rt.alloc(), team, groups, runs) else {
-            return Err(ErrorKind::OutOfMemory.into());
-        };
-        println!(rt;
-            "workers {workers}, by the {}: cost {COST} with a certificate {proved}, without rows {found}",
-            division.word()
-        )?;
+        match count_runs(rt, rt.alloc(), team, groups, runs) {
+            Some(count) => print_count(rt, team, count)?,
+            None => return Err(ErrorKind::OutOfMemory.into()),
+        }
     }
     Ok(())
+}
+
+fn print_count(rt: &impl Print, team: Team, count: Count) -> io::Result<()> {
+    let (workers, word) = (team.workers, team.division.word());
+    let Count { proved, found } = count;
+    println!(rt;
+        "workers {workers}, by the {word}: cost {COST} with a certificate {proved}, without rows {found}"
+    )
 }
 
 // Counts the runs that find the cost, or None where memory was refused for the board's bound.
@@ -84,19 +96,33 @@ fn count_runs<R: Threads + Wait + Sync>(
 ) -> Option<Count> {
     let problem = far_problem(u64::MAX)?;
     let bound = bound_of(alloc, &problem.goal, &problem.weights, groups)?;
+    Some(count_guided(rt, alloc, &problem, &bound, team, runs))
+}
+
+// Counts them where this bound guides the search.
+fn count_guided<R: Threads + Wait + Sync>(
+    rt: &R,
+    alloc: Global,
+    problem: &Problem,
+    bound: &Bound,
+    team: Team,
+    runs: u64,
+) -> Count
+    requires { ArePotentials problem.now.weights problem.now.goal bound.now }
+{
     let mut count = Count {
         proved: 0,
         found: 0,
     };
     for _ in 0..runs {
-        if answer_with_rows(rt, alloc, &problem, &bound, team, &Free) == Answer::Plan(COST) {
+        if answer_with_rows(rt, alloc, problem, bound, team, &Free) == Answer::Plan(COST) {
             count.proved = count.proved.saturating_add(1);
         }
-        if answer_without_rows(rt, alloc, &problem, &bound, team, &Free) == Answer::Plan(COST) {
+        if answer_without_rows(rt, alloc, problem, bound, team, &Free) == Answer::Plan(COST) {
             count.found = count.found.saturating_add(1);
         }
     }
-    Some(count)
+    count
 }
 
 // Counts the runs of 2 to 16 workers, whom tables guide, that end in a world that is kept, and find
@@ -104,12 +130,24 @@ fn count_runs<R: Threads + Wait + Sync>(
 fn count_kept<R: Threads + Wait + Sync>(rt: &R, alloc: Global) -> Option<Kept> {
     let problem = far_problem(u64::MAX)?;
     let bound = bound_of(alloc, &problem.goal, &problem.weights, &FAR_GROUPS)?;
+    Some(count_kept_by(rt, alloc, &problem, &bound))
+}
+
+// Counts them where this bound guides the search.
+fn count_kept_by<R: Threads + Wait + Sync>(
+    rt: &R,
+    alloc: Global,
+    problem: &Problem,
+    bound: &Bound,
+) -> Kept
+    requires { ArePotentials problem.now.weights problem.now.goal bound.now }
+{
     let mut count = Kept { kept: 0, runs: 0 };
     for workers in 2..17 {
         for division in Division::HASHED {
             let team = Team { workers, division };
             for _ in 0..RUNS {
-                let answer = answer_of_threads(rt, alloc, &problem, &bound, team, &Free);
+                let answer = answer_of_threads(rt, alloc, problem, bound, team, &Free);
                 if answer == Some(Answer::Plan(COST)) {
                     count.kept = count.kept.saturating_add(1);
                 }
@@ -117,5 +155,5 @@ fn count_kept<R: Threads + Wait + Sync>(rt: &R, alloc: Global) -> Option<Kept> {
             }
         }
     }
-    Some(count)
+    count
 }

@@ -18,7 +18,7 @@ use board::Shape;
 use look::{look, print_changes};
 use message_ledger::{Allowance, Capped, Credit, Grants, Purse, Shares, Tokens};
 use owners::{ByBlank, Spread, Zobrist};
-use scenes::{Division, SCENES, Scene};
+use scenes::{Act, Division, SCENES, Scene};
 use std::io::{self, ErrorKind, Print};
 use std::marker::Brand;
 use std::sync::ledger::{Blank, Ledger};
@@ -27,11 +27,15 @@ use team::{Team, WORKERS, gather};
 /// Plays all scenes, and prints what is seen of them.
 pub fn print_scenes(rt: &(impl Print + AllocGlobal)) -> io::Result<()> {
     for scene in &SCENES {
-        println!(rt; "# {}", scene.title)?;
-        play(rt, scene)?;
-        rt.println("")?;
+        print_scene(rt, scene)?;
     }
     Ok(())
+}
+
+fn print_scene(rt: &(impl Print + AllocGlobal), scene: &Scene) -> io::Result<()> {
+    println!(rt; "# {}", scene.title)?;
+    play(rt, scene)?;
+    rt.println("")
 }
 
 // Plays a scene, by the owners that it names.
@@ -86,10 +90,10 @@ fn play_with<C: Tokens, S: Spread>(
     requires workers { C.allows_workers WORKERS }
     requires none { grants ≡ 0 }
 {
-    let Some(mut team) = gather(rt.alloc(), scene, credit, purse, grants, allowance) else {
-        return Err(ErrorKind::OutOfMemory.into());
-    };
-    perform(rt, owners, scene, &mut team)
+    match gather(rt.alloc(), scene, credit, purse, grants, allowance) {
+        Some(mut team) => perform(rt, owners, scene, &mut team),
+        None => Err(ErrorKind::OutOfMemory.into()),
+    }
 }
 
 // Does what a scene says, and prints it.
@@ -99,16 +103,26 @@ fn perform<C: Tokens, S: Spread>(
     scene: &Scene,
     team: &mut Team<C>,
 ) -> io::Result<()> {
-    let alloc = rt.alloc();
-    let mut seen = look(alloc, team)?;
+    let mut seen = look(rt.alloc(), team)?;
     rt.println(seen.as_str())?;
     'acts: for act in scene.acts {
-        let answer = make(alloc, owners, scene.me, team, *act);
-        print!(rt; "{act:?}: {answer}")?;
-        let now = look(alloc, team)?;
-        print_changes(rt, seen.as_str(), now.as_str())?;
-        rt.println("")?;
-        seen = now;
+        seen = print_act(rt, owners, scene.me, team, *act, seen.as_str())?;
     }
     Ok(())
+}
+
+// Does what one line says, and prints it; what is seen after it.
+fn print_act<C: Tokens, S: Spread>(
+    rt: &(impl Print + AllocGlobal),
+    owners: &S,
+    me: usize,
+    team: &mut Team<C>,
+    act: Act,
+    seen: &str,
+) -> io::Result<String> {
+    let answer = make(rt.alloc(), owners, me, team, act);
+    print!(rt; "{act:?}: {answer}")?;
+    let now = look(rt.alloc(), team)?;
+    print_changes(rt, seen, now.as_str())?;
+    Ok(now)
 }

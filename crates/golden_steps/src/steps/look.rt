@@ -25,25 +25,29 @@ pub fn look<C: Tokens>(alloc: Global, team: &Team<C>) -> io::Result<String> {
     Ok(text)
 }
 
-/// Prints each piece that has changed.
+/// Prints each piece that has changed, and ends the line.
 pub fn print_changes(rt: &impl Print, before: &str, after: &str) -> io::Result<()> {
     'pieces: for (old, new) in before.split(BETWEEN).zip(after.split(BETWEEN)) {
         if old != new {
             print!(rt; "{BETWEEN}{new}")?;
         }
     }
-    Ok(())
+    rt.println("")
 }
 
 fn push_all<C: Tokens>(text: &mut String, team: &Team<C>) -> io::Result<()> {
-    let worker = team.trial.worker();
-    push_known(text, team.trial.shape(), worker.lists())?;
-    push_items(text, "held", worker.held())?;
-    push_unsent(text, worker)?;
-    push_amounts(text, worker)?;
+    push_known(text, team.trial.shape(), team.trial.worker().lists())?;
+    push_worker(text, team.trial.worker())?;
     push_lane(text, "out", &team.lane_out)?;
     push_lane(text, "in", &team.lane_in)?;
     push_book(text, &team.book)
+}
+
+// What a worker has except for its known boards.
+fn push_worker<C: Tokens>(text: &mut String, worker: &Worker<C>) -> io::Result<()> {
+    push_items(text, "held", worker.held())?;
+    push_unsent(text, worker)?;
+    push_amounts(text, worker)
 }
 
 // The known boards in order of arrival: the tiles, the cost, the last move, and a star where the
