@@ -157,7 +157,7 @@ static CASES: [Case; 22] = [
         status: 1,
         unwritten: "tilesolve: B2\n",
     },
-    // What stands behind the line is not read.
+    // What follows the line is not read.
     Case {
         run: Run::Certify,
         input: b"\nr 1 0 2 3\n a 0 1 2 3",

@@ -235,7 +235,7 @@ fn answers_with_folded<R: Abort + AllocGlobal + Threads + Sync>(
     ]
 }
 
-// Bytes and groups whose folded tables are tried, and the answer. The first fit but for that they
+// Bytes and groups whose folded tables are tried, and the answer. The first fit except that they
 // are folded; the last are none, so that none is folded.
 static FOLDED: [(&[u8], &[&[u8]], Result<(), Refusal>); 2] = [
     (&WITH_GROUPS, &[&[1], &[3]], Err(Refusal::UnfitGroup(0))),
