@@ -15,7 +15,7 @@ use Rattle.pattern_index.specs.Partitions.{ShareNoTile, PartitionModel, IsPartit
 use Rattle.pattern_index.proofs.ViewMoveLemmas.{board_view, seen_move}
 use Rattle.database_build.specs.Folds.{FoldedModel, IsFoldOf, folded_in}
 use Rattle.lower_bound.specs.Folded.{AreFolded, AreFoldsOf, IsFoldedPotential, folded_parts, part_folded, value_for, AreFoldedPotentials, KeepsOtherTiles, values_of}
-use Rattle.lower_bound.specs.Laws.{FoldedSumsAreLowerBounds, AreOneEach, FoldedBoundsSayNoMore, MovesMoveOneTile}
+use Rattle.lower_bound.specs.Laws.{FoldedSumsAreLowerBounds, AreOneEach, FoldedBoundsSayNoMore, FoldedBoundsKeepGroups, MovesMoveOneTile}
 use Rattle.board.specs.declared.moves.Move.{Move}
 use Rattle.board.specs.Weights.{WeightsModel}
 use Rattle.board.specs.Moves.{Moves}
@@ -479,6 +479,10 @@ folded_potentials rule goal tables folded is made potentials = record {
       (λ (old : AreFoldsOf tables.split.groups tables.folds × (tables.lookups ≡ [])). subst (λ (fs : List FoldedModel). AreFoldedPotentials rule goal fs) (sym (made.kept old.1)) potentials.folded)
       is.one_each;
 }
+
+-- a bound whose tables were folded is of the same groups
+pub folded_groups : FoldedBoundsKeepGroups
+folded_groups tables folded is = is.split
 
 -- a bound whose tables were folded says no more
 pub folded_no_more : FoldedBoundsSayNoMore

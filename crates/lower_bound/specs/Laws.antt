@@ -52,6 +52,10 @@ FoldedBoundsSayNoMore =
     → b.grid ≡ tables.split.grid
     → sum_of (parts_of folded) b ≤ sum_of (parts_of tables) b
 
+-- a bound whose tables were folded is of the same groups
+abbrev pub FoldedBoundsKeepGroups : Type 0
+FoldedBoundsKeepGroups = (tables folded : BoundModel) → IsFoldedBound tables folded → folded.split ≡ tables.split
+
 -- tables as they are given out: one for each group, in the order of the groups
 abbrev pub AreOneEach : List GroupModel → TableList → Type 0
 AreOneEach groups (Whole lookups) = AreTablesOf groups lookups.now

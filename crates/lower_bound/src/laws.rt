@@ -4,7 +4,8 @@ ghost use Rattle.std.specs.Prelude.{◌≡◌, ◌*◌};
 ghost use Rattle.lower_bound.specs.Laws.{SumsAreLowerBounds, TablesAreLowerBounds};
 ghost use Rattle.lower_bound.specs.Laws.{FoldedSumsAreLowerBounds, MovesMoveOneTile, ValuesAddUp};
 ghost use Rattle.lower_bound.specs.Laws.{ATileHasOneGroup, ListedTablesAreOneEach};
-ghost use Rattle.lower_bound.specs.Laws.{FoldedBoundsSayNoMore, MovesChangeOneValue};
+ghost use Rattle.lower_bound.specs.Laws.{FoldedBoundsSayNoMore, FoldedBoundsKeepGroups};
+ghost use Rattle.lower_bound.specs.Laws.{MovesChangeOneValue};
 ghost use Rattle.lower_bound.specs.Laws.{BothAreToldOrNot};
 
 use crate::bound::GREATEST_SUM;
@@ -26,10 +27,12 @@ pub fn folded_sums_are_lower_bounds()
     ensures { FoldedSumsAreLowerBounds }
 {}
 
-/// A bound whose tables were folded says no more of a board than it said before.
-#[tactic(auto, using(crate::proofs::PartLemmas::folded_no_more))]
+/// A bound whose tables were folded is of the same groups, and says no more of a board than it said
+/// before.
+#[tactic(auto, using(crate::proofs::PartLemmas::folded_no_more, crate::proofs::PartLemmas::folded_groups))]
 pub fn folded_bounds_say_no_more()
-    ensures { FoldedBoundsSayNoMore }
+    ensures values { FoldedBoundsSayNoMore }
+    ensures groups { FoldedBoundsKeepGroups }
 {}
 
 /// The tables that a bound gives out are one for each of its groups, in the order of the groups.

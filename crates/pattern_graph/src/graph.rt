@@ -1,6 +1,6 @@
 //! The graph that a search goes over: the nodes of a group's views, and the edges between them.
 
-ghost use Rattle.std.specs.Prelude.{◌≡◌, ◌<◌, length, slice_index, map};
+ghost use Rattle.std.specs.Prelude.{ℕ, ◌≡◌, ◌<◌, ◌≤◌, length, slice_index, map};
 ghost use Rattle.pattern_index.specs.Views.{IsView, view_of};
 ghost use Rattle.pattern_index.specs.Groups.{IsGroup};
 ghost use Rattle.pattern_graph.specs.Regions.{IsRegions};
@@ -39,6 +39,8 @@ impl Graph {
         ensures graph { IsGraphOf group.now weights.now result }
         ensures sound { IsSoundGraph result }
         ensures costs { AreSomeCosts group.now.tiles result.costs }
+        ensures behind { (place : ℕ) → length group.now.tiles ≤ place
+            → slice_index result.costs place ≡ 0 }
     {
         Graph {
             regions: frame.regions,
@@ -73,6 +75,7 @@ fn costs_of(group: &Group, weights: &Weights) -> [u8; 9]
     ensures length { length result ≡ 9 }
     ensures costs { AreWeightsOf weights.now group.now.tiles result }
     ensures some { AreSomeCosts group.now.tiles result }
+    ensures behind { (place : ℕ) → length group.now.tiles ≤ place → slice_index result place ≡ 0 }
 {
     let mut costs = [0; 9];
     let tiles = group.tiles();

@@ -41,7 +41,7 @@ pub struct Regions {
     pub count: usize,
     /// The places of sets.
     pub choices: Choices,
-    /// The region of each cell of the shape, set by set; `u32::MAX` where a tile stands.
+    /// The region of each cell of the shape, set by set; any number where a tile stands.
     pub numbers: Vec<u32>,
     /// Where each region is first met, by the region's number.
     pub homes: Vec<Home>,

@@ -150,7 +150,7 @@ fn find_larger(alloc: Global, regions: &Regions) -> Result<Vec<u32>, OutOfMemory
     Ok(larger)
 }
 
-// The place of a set with one cell more, or 0 where it has that cell.
+// The place of a set with one cell more; any number where the set has that cell.
 fn place_with(regions: &Regions, cells: &[u8; 9], cell: u8) -> u32
     requires regions { IsRegions regions.now.shape regions.now.count regions.now }
     requires listing { IsListing (cell_count regions.now.shape) (take (regions.now.count - 1) cells.now) }
