@@ -1,5 +1,18 @@
 //! The library of the program `tilesolve`: boards in, reports or a certificate out, certificates
 //! checked, drawn and upgraded, and runs replayed step by step.
+//!
+//! - The program as a library: `run_program` over any streams; `run_with_progress` also has a
+//!   watch, and `WhereAsked` passes on only what the arguments ask for. The crate re-exports the
+//!   public names of the crates below.
+//! - `command_for` makes a `Command` of a `Request`: its tables are built before input is read.
+//!   `Runner` has what commands run with. A flush follows each run; the first fault of the two
+//!   decides (`after_flush`).
+//! - `Ending` is how the program ends, with contracts for status and message; `BatchFault` is the
+//!   sum of the runs' faults.
+//! - `RunsProgram` is the contract: `EndsBy` says how it ends, `IsTrueBy` that what is written is
+//!   true, field `batch` the same for no arguments (`IsTrue`).
+//! - Start with `specs/Headline.antt`, `specs/Programs.antt`, then `src/program.rt`,
+//!   `src/runner.rt`.
 #![tactic(auto)]
 
 mod commands;

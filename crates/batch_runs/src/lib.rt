@@ -1,5 +1,19 @@
 //! The lines of an input, each answered: what a batch is, what its lines have in common, and how it
 //! is run with any solver.
+//!
+//! - `run_lines` runs over all lines with any `Solver`; `Rules` (from the trait `Ruled`) say what
+//!   it may answer. It names no crate that searches.
+//! - Each report is written and flushed before the next line is taken (`send_report`).
+//! - `solve_ahead` may solve boards ahead: it sees the bytes that the source holds, takes none, and
+//!   its endings are used for their own boards alone (`take_ready`).
+//! - Each ending has `Stats` beside it (`Solved`). `observe` hands them to the solver when the line
+//!   is answered; `stats_text` makes the line of `--stats`.
+//! - `Setup` has what all lines share: goal, weights, tables, limit, workers, spread. Its type
+//!   keeps `Guides`: the tables are potentials for goal and weights. Without groups the sums are 0.
+//! - Clauses: `reports` (`ReportsLines`, for any rules), `truth` (`IsTrueRun`, for truthful rules),
+//!   `flushed`. The truth follows from the first without the code.
+//! - Start with `specs/Batches.antt`, `specs/Setups.antt`, or from above `specs/Headline.antt`,
+//!   then `src/batch.rt`.
 #![tactic(auto)]
 
 mod answering;

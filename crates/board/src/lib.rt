@@ -2,7 +2,23 @@
 //! plans, and the two classes of boards.
 //!
 //! A board is the list of the tiles on its cells, from left to right and from top to bottom, with 0
-//! for the blank (Korf 1985). Nothing here takes memory.
+//! for the blank (Korf 1985).
+//!
+//! - Contracts see a `Board` as a `BoardModel` (a grid and the numbers on its cells), a `Shape` as
+//!   a `ShapeModel`, `Weights` as a `WeightsModel`.
+//! - In memory a board is its shape and 25 bytes, unused ones 0. All types are `Copy`; `==` is
+//!   equality of what contracts see.
+//! - `Board::step` is `Moves`, both ways; `follow` is `Leads`; `same_class` decides the parity
+//!   class.
+//! - `from_tiles`, `tiles`, `key`, `from_key` convert exactly; `of_key` skips the test for a key
+//!   that is known to be a board's.
+//! - A call that returns a shape also states that its owner is lawful, since callers see only the
+//!   model.
+//! - No call takes memory. The faults are E1 to E4, E13 and E14.
+//! - A board does not keep the blank's cell: a search key has it as its lowest digit
+//!   (`search_keys`).
+//! - `follow` adds in 128 bits, since a plan may have almost 2^64 moves of 255 each.
+//! - Start with `specs/Boards.antt`, `specs/Moves.antt`, `specs/Plans.antt`, then `src/boards.rt`.
 #![tactic(auto)]
 
 mod boards;

@@ -1,4 +1,15 @@
 //! The checker of certificates: what it accepts is least, whoever made the certificate.
+//!
+//! - `check` and `check_parallel` answer Ok exactly where `IsProved`, else the first refusal
+//!   (`IsFirstRefusal`). Neither takes memory.
+//! - Both judge plan, tables, start's and goal's row (`check_up_to_rows`), find the first open
+//!   successor, and conclude. Only the search for it differs. `check_plan` looks at the plan alone.
+//! - Threads look at blocks of 4,096 rows; `find_open` goes on from the first block not known to be
+//!   closed. An atomic notes an open block, so that later ones are skipped; no proof rests on it.
+//! - A successor's row is looked up near the row of its parent: neighbours in rank lie at similar
+//!   distances (`Distances`).
+//! - `bench/check` times it. Start with `specs/Refusals.antt`, then `src/lib.rt`,
+//!   `src/checking.rt`.
 #![tactic(auto)]
 
 mod checking;
@@ -24,21 +35,31 @@ pub use refusals::Refusal;
 use std::thread::Threads;
 use successors::find_open;
 
-/// Whether a certificate proves what it claims with these tables: the plan, if there is one, leads
-/// from the start to the goal at the stated cost, the tables are those of its groups, whole, and
-/// potentials for its goal and costs, and the rows, which are boards with what it costs at most to
-/// reach them, show with the tables' sums that no plan is cheaper. The cost of a plan is then the
-/// least, and a bound is undercut by no plan.
+/// Whether a certificate proves what it claims with these tables. Three things have to hold:
 ///
-/// Else the first cause to refuse, in the order of the codes: of a plan C1 its first illegal move,
-/// C2 another end, C3 another cost; of plans and bounds, where the stated cost is the bound, C4 the
-/// first place at which the certificate's groups and the tables' differ or whose table is folded or
-/// no potential, and the first of all where their shapes differ, C5 no row of the start at 0
-/// although the start's sum is below the stated cost (no row is asked for where the sum is that
-/// cost or more), C6 the first row of the goal, C7 the first row, and there the first of the moves
-/// up, left, right and down, that leaves a board open: the sum of the board that it leads to and
-/// the cost of going there, which is the row's cost and the move's, are below the stated cost when
-/// they are added up, and that board has no row, or one of more than the cost of going there.
+/// - The plan, if there is one, leads from the start to the goal at the stated cost.
+/// - The tables are those of its groups, whole, and potentials for its goal and costs.
+/// - The rows show with the tables' sums that no plan is cheaper. A row is a board with what it
+///   costs at most to reach it.
+///
+/// The cost of a plan is then the least, and no plan undercuts a bound.
+///
+/// Else the answer is the first cause to refuse, in the order of the codes. Of a plan:
+///
+/// - C1: its first illegal move.
+/// - C2: another end.
+/// - C3: another cost.
+///
+/// Of plans and bounds, where a bound is the stated cost of its certificate:
+///
+/// - C4: the first place at which the groups differ, or whose table is folded or no potential. It
+///   is the first place of all where the shapes differ.
+/// - C5: no row of the start at 0, although the start's sum is below the stated cost. Where the sum
+///   is that cost or more, no row is asked for.
+/// - C6: the first row of the goal.
+/// - C7: the first row, and its first move in the order up, left, right and down, that leaves a
+///   board open. The row's cost and the move's are what going there costs. With the sum of the
+///   board there it is below the stated cost, and that board has no row, or one of a greater cost.
 ///
 /// A folded table is refused whatever it was folded from, since that can't be seen from it alone.
 ///

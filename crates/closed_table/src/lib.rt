@@ -1,4 +1,23 @@
 //! The closed list, and all boards that are known beside: what is known of each, by their keys.
+//!
+//! - Contracts see a `Closed` as a `ClosedModel`: keys in order of arrival, what is known of each,
+//!   and room. Keys are any `u128`.
+//! - `relax` answers `New`, `Lower` or `Kept`, and the key's place. Only `reserve` takes memory;
+//!   after a refusal the table is as it was.
+//! - In memory: slots in order of arrival, links and buckets, all in `Pages`.
+//! - A chain has a bucket of one cache line: hashes and places of its first seven slots, a list for
+//!   the others, and a filter with a bit for each hash in it.
+//! - 127 chains are made with the first slot; from 508 slots on one chain is added with each fourth
+//!   slot and takes slots from one other (linear hashing, Litwin 1980).
+//! - Of eight chains divided in a row the lists are read at once, so that cache misses overlap. All
+//!   seven hashes are compared without a branch.
+//! - `read_ahead` changes nothing in contracts; it writes a field nobody reads, so that the reads
+//!   stay.
+//! - The invariant `IsIndexed` gives each bucket as a function of the keys (`bucket_of`).
+//! - `relink` recurses as deep as a chain's list. Keys made to collide could overflow a stack;
+//!   boards that were reached do not.
+//! - Start with `specs/Tables.antt` and `src/table.rt`; then `specs/Chains.antt`, `src/index.rt`,
+//!   `specs/Storage.antt`.
 #![tactic(auto)]
 
 mod index;

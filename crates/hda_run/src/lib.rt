@@ -1,5 +1,20 @@
 //! Worlds of workers, and runs of their steps: hash-distributed A* on one thread (Kishimoto,
 //! Fukunaga, Botea 2013).
+//!
+//! - A `Job` is seen as a `JobModel`; its type keeps that shapes agree and tables are potentials,
+//!   so sums are lower bounds. A `World` keeps shaped, sound, credited and guided.
+//! - `World::new`, `step`, `run_steps`, `finish` for replays, `read` in each reading; `solve_one`
+//!   and `read_one` for one worker, `search_one` compares no classes. `run_and_finish` states the
+//!   main theorem.
+//! - `Gate` is called after each accepted step, while no lock is held; `Free` does nothing. A bound
+//!   is shown where one is wanted (`is_wanted`), and is that of the world that is handed over
+//!   (`IsBoundSoFar`).
+//! - One worker's run ends by a measure, `work_left`: what may be granted and expanded. It
+//!   announces the goal as soon as it was met.
+//! - Steps are proved on parts (`own_steps`, `book_steps`, `lane_steps`); three laws of
+//!   `world_model` keep the invariant.
+//! - Start with `specs/Worlds.antt`, `src/world.rt`, `src/finish.rt`; for one worker
+//!   `specs/Alone.antt`, `src/alone.rt`.
 #![tactic(auto)]
 
 mod alone;

@@ -8,8 +8,18 @@
 //! gives the graph of the group's views and view moves (`IsGraphOf`), and each edge leads to a node
 //! (`IsSoundGraph`): the searches of `pattern_search` need no more.
 //!
-//! `rank_values`, `rank_least`, `write_slots` and `write_places` lay out the values that these find, for
-//! `database_build`. Begin with `specs/Regions.antt`, `specs/Graphs.antt` and `src/graph.rt`.
+//! - A region hangs on the set of the tiles' cells alone, and a set has its place among those of
+//!   its size (`Choices`). How the tiles lie on the set is an order (`Orders`): for each tile how
+//!   many tiles before it are on smaller cells.
+//! - A node is a region with an order. An edge leads from region to region where a tile goes to the
+//!   blank's cell (`Edges`); it moves the tile's position, so edges are found once for all orders.
+//! - `IsGraph` ties nodes and edges to views and view moves; `graph_of` of `GraphLemmas` proves it.
+//!   A search needs nothing else of them.
+//! - `rank_values` writes values row by row: a row has the views that differ in the last tile's
+//!   cell. `write_slots` writes them set by set.
+//! - The law `places_without_views`: a sparse place has no view exactly where two of its digits are
+//!   the same.
+//! - Start with `specs/Regions.antt`, `specs/Graphs.antt`, then `src/graph.rt`.
 #![tactic(auto)]
 
 mod edges;

@@ -1,4 +1,12 @@
 //! Replays: a board line, the steps that follow it, and what is written for each.
+//!
+//! - `replay_lines` is generic in what opens runs (`Opener`) and takes steps (`Run`); `run_replay`
+//!   uses worlds of `hda_run`.
+//! - `RepliesTo`: what a line is answered; `Changes`: what its step does. `IsReplied`: all lines,
+//!   whose steps are a run. `IsPlay`, `IsEnd`: with board line and outcome. `Replays`: how a replay
+//!   ends.
+//! - The last report is that of the ending, since rows are not reported.
+//! - Start with `specs/Replays.antt`, then `src/board_line.rt`, `src/stepping.rt`.
 #![tactic(auto)]
 
 mod board_line;

@@ -1,4 +1,10 @@
 //! The reports of outcomes, of refused lines and of certificates, as JSON.
+//!
+//! - `outcome_report`, `refused_report` and the three reports of certificates make JSON by
+//!   `serde_json`, member by member.
+//! - `specs/Reports.antt` defines the text, `specs/Readings.antt` what it says to a JSON reader;
+//!   the laws join the two.
+//! - `NoReport` is out of memory for a report, which only these functions make.
 #![tactic(auto)]
 
 pub mod laws;

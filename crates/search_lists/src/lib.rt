@@ -1,4 +1,15 @@
 //! The open and the closed list of a search, kept in step.
+//!
+//! - `SearchLists` is an open list of places in a table of known boards. It knows keys alone; a
+//!   `Guide` in clauses gives sums and the goal.
+//! - `IsInOrder`: each open board waits at its f, and every entry was put there so.
+//! - `relax` puts news into the open list; `next` gives an open board of least f below a limit;
+//!   outdated entries go out at their turn.
+//! - Of equal f the greatest g comes first: an f is sorted when it first becomes the least and
+//!   exceeds each before. No clause says so.
+//! - `reserve_boards` asks for 64 boards at once, and only if that is refused for those needed.
+//! - `has_met_goal` is a hint; no clause speaks of it.
+//! - Start with `specs/Orders.antt`, then `src/lists.rt`.
 #![tactic(auto)]
 
 pub mod laws;

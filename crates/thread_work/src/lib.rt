@@ -1,6 +1,21 @@
 //! The threads of a run of hash-distributed A*: what the worker of each does until the run has
 //! stopped, how one that has nothing to do gives its core away, and how threads are started and
 //! joined. Nothing is assumed of the other threads: a part comes back with the face that it had.
+//!
+//! - A `Site` is what all threads work with: the handle, the gate, the signs and the book.
+//! - `run_all` starts a thread for each part, joins them in order and gives the parts back with
+//!   their faces. `work` is one thread's loop.
+//! - `run_parts` calls itself for the parts before the last, so no list of handles exists, and each
+//!   thread started is joined.
+//! - Where a thread cannot be started, the book is halted by Start and the part comes back as it
+//!   was.
+//! - A round receives, announces, expands up to 16 boards, sends nearly full packets, and rests
+//!   where nothing was done.
+//! - The book's lock is held for one step or look. A mark in `Signs` says that it has stopped; the
+//!   mark proves nothing, so the book is read then.
+//! - An idle thread spins 8 rounds, yields 8, then sleeps at most 100 microseconds. Before it
+//!   sleeps it looks at its rings once more with its word set.
+//! - Start with `src/rounds.rt`, then `src/threads.rt`.
 #![tactic(auto)]
 
 mod book_steps;

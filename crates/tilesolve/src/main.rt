@@ -1,7 +1,13 @@
-//! The program `tilesolve`. By its words it reports a plan of least cost for each board (`solve`),
-//! writes the certificate of the first board's plan (`solve --cert`), checks a certificate
-//! (`check`), or takes the steps of a search one by one (`replay`); boards, certificates and steps
-//! are read from standard input, and what is answered goes to standard output.
+//! The program `tilesolve`. It reports a plan of least cost for each board (`solve`), writes the
+//! certificate of the first board's plan (`solve --cert`), checks a certificate (`check`), or takes
+//! the steps of a search one by one (`replay`).
+//!
+//! It reads boards, certificates and steps from standard input, and answers on standard output.
+//!
+//! - `main` hands arguments and buffered standard streams to `run_with_progress`, with a watch that
+//!   counts expansions for `--progress`, and reads the clock and prints figures for `--stats`.
+//! - `./tilesolve` at the root runs the program that `./prove` or `.ci/run` made of these sources,
+//!   or builds one without repeating the proofs (`tools/quick_build.py`).
 #![tactic(auto)]
 
 use batch_cli::{Ending, Gate, Kind, Spread, Stats, Watch, World, run_with_progress, stats_text};

@@ -1,5 +1,30 @@
 //! One worker of hash-distributed A* and its steps, and the lanes by which workers send one another
 //! packets.
+//!
+//! - A `Worker` has no model: clauses speak of `state_of` it, and of its `lists`, of whose order
+//!   the definitions say nothing.
+//! - Each step is one call whose clause `step` is the definition of that name. Guided lists stay
+//!   guided, also after a refusal.
+//! - A worker has no goal and no tables; its steps are lent them in a `Context`. Clauses hold for
+//!   each start and each `Guide` of the goal (`tasks_have_guides`).
+//! - `Serves` is what `expand` asks of a worker, and `KeepsServing` what it keeps.
+//! - `expand` takes all successors (`All`), or leaves out the one back (`Onward`). For an only
+//!   worker both are the same step (`onward_steps_alone_are_whole`).
+//! - Memory is taken in `new`, `Queue::new`, `expand`, `settle` and `meet` alone, before the first
+//!   change. The last three are refused only where the lists lack places (`LacksPlacesToExpand`,
+//!   `LacksPlaceFor`).
+//! - `settle` drops a foreign item: of another shape, of another worker, or above `GREATEST_COST`.
+//!   No world has one.
+//! - `expand` asks for places for four boards, and four at the f of each own successor, since
+//!   several may have the same.
+//! - `LaneOut` and `LaneIn` are the ends of a lane. `IsAtSender` and `IsAtReceiver` are what a
+//!   worker may conclude from an answer. `Queue` has both ends.
+//! - Of a packet taken in, the table's buckets are read ahead; a board's sum is made only where its
+//!   cost is news.
+//! - Proofs: an expansion takes its offers one by one; `IsReady` says what the rest needs. The
+//!   book's calls make the steps, by laws of `world_model`.
+//! - Start with `specs/Workers.antt`, `specs/Roles.antt`, `src/worker.rt`; for lanes
+//!   `specs/Lanes.antt`, `src/lanes.rt`.
 #![tactic(auto)]
 
 mod book_steps;
