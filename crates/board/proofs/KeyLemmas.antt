@@ -107,7 +107,7 @@ key_fits b i is before =
     let most : 32 ^ length (take i b.tiles) ≤ 32 ^ 24 = pow-le-pow_right {n = 32} (omega arith) {j = 24} (omega (arith, length-take i b.tiles)) in
     omega arith
 
--- before the first digit is read none of the digits stand behind
+-- before the first digit is read, no digit is behind the others
 pub digits_begin : (n key : ℕ) (tiles : List ℕ) → digits_of n key ≡ digits_of n key ++ drop n (take n tiles)
 digits_begin n key tiles =
     let none : drop n (take n tiles) ≡ [] = drop_all n (take n tiles) (omega (arith, length-take n tiles)) in

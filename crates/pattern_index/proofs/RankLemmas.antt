@@ -12,7 +12,7 @@ use Rattle.std.proofs.Math.Nat.{mul-le-mul_right}
 use Rattle.board.specs.Keys.{Precedes}
 use Rattle.pattern_index.specs.Ranks.{ways, IsListing, rank_after, rank_of, spread, list_at}
 
--- where a cell comes to stand when x is taken out
+-- the number that a cell has when x is taken out
 abbrev pub squeeze : ℕ → ℕ → ℕ
 squeeze x y = cond (ltb x y) (y - 1) y
 

@@ -10,7 +10,7 @@ unfoldable pub sparse_of : ℕ → List ℕ → ℕ
 sparse_of n [] = 0
 sparse_of n (cell ∷ cells) = cell + n * sparse_of n cells
 
--- so many digits of a number, of which each is below n, the lowest first
+-- the lowest `count` digits of a number to the base n, the lowest first
 unfoldable pub digits_in : ℕ → ℕ → ℕ → List ℕ
 digits_in n zero number = []
 digits_in n (suc count) number = (number % n) ∷ digits_in n count (number / n)

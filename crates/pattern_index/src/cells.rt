@@ -6,8 +6,8 @@ ghost use Rattle.pattern_index.specs.Ranks.{ways, IsListing, rank_of, spread, li
 
 use crate::group::MAX_SIZE;
 
-// The rank of a list of different cells, of so many cells. It is made from the front, and each cell
-// counts without the smaller ones that were seen.
+// The rank of a list of different cells below `cells`. It is computed from the front, and each cell
+// counts without the smaller ones before it.
 pub(crate) fn rank_cells(cells: usize, list: &[u8]) -> usize
     requires few { cells ≤ 25 }
     requires listing { IsListing cells list.now }
@@ -27,8 +27,8 @@ pub(crate) fn rank_cells(cells: usize, list: &[u8]) -> usize
     rank
 }
 
-// The rank of the cells of the blank and of some tiles, of so many cells, by a list of the cell of
-// each number: as `rank_cells`, without a list of these cells.
+// The rank of the cells of the blank and of some tiles, among `count` cells, from the cell of each
+// number. It is that of `rank_cells`, without a list of these cells.
 pub(crate) fn rank_numbers(count: usize, tiles: &[u8], cells: &[u8; 25]) -> usize
     requires few { count ≤ 25 }
     requires tiles { All (λ tile. tile < 25) tiles.now }
@@ -52,8 +52,8 @@ pub(crate) fn rank_numbers(count: usize, tiles: &[u8], cells: &[u8; 25]) -> usiz
     rank
 }
 
-// The rank of the cells of some tiles, of so many cells, by a list of the cell of each number: as
-// `rank_cells`, without a list of these cells.
+// The rank of the cells of some tiles, among `count` cells, from the cell of each number. It is that
+// of `rank_cells`, without a list of these cells.
 pub(crate) fn rank_tiles(count: usize, tiles: &[u8], cells: &[u8; 25]) -> usize
     requires few { count ≤ 25 }
     requires tiles { All (λ tile. tile < 25) tiles.now }

@@ -49,7 +49,7 @@ pub(crate) fn sparse_tiles(count: usize, tiles: &[u8], cells: &[u8; 25]) -> usiz
     }
 }
 
-// The same, where there are so many tiles.
+// The same, where there are `all` tiles.
 fn sparse_of_all(all: usize, count: usize, tiles: &[u8], cells: &[u8; 25]) -> usize
     requires all { all ≡ length tiles.now }
     requires few { count ≤ 25 }
@@ -107,7 +107,7 @@ fn cell_after(cells: &[u8; 25], tile: u8, number: u8) -> u8
     }
 }
 
-// Writes the digits of a number, of which each is below a count, the lowest first.
+// Writes the digits of a number to the base `count`, the lowest first.
 pub(crate) fn write_digits(count: usize, number: usize, digits: &mut [u8])
     requires some { 0 < count }
     requires few { count ≤ 25 }

@@ -325,7 +325,7 @@ module _ (k : ℕ) where
       (λ (above : x % 2 ^ suc k ≢ 0). next_marked n x y z c e minus not_x last above (marked n last (x / 2 ^ suc k) (y / 2 ^ suc k) (z / 2 ^ suc k) c e (omega arith) (sym (digit_next x last) ∙ there) (minus_rest n x y z c e minus not_x above) (not_rest n x y z c e minus not_x)))
       (cases_eq (x % 2 ^ suc k) 0)
 
-  -- so many zeros stand below the mark
+  -- the number of zeros below the mark
   pub zeros_below : (width x t last : ℕ) (is : IsMarked x t last) → k + suc k * last < width → count_trailing_zeros width t ≡ k + suc k * is.place
   zeros_below width x t last is fits =
       let power : 2 ^ (k + suc k * is.place) ≡ 2 ^ k * 2 ^ (suc k * is.place) = pow-add 2 k (suc k * is.place) in
