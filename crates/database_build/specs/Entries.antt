@@ -11,7 +11,7 @@ use Rattle.database_build.specs.declared.entries.Entries.TheVariants.{Ranked, By
 use Rattle.pattern_search.specs.declared.finding.TheConstants.{NO_VALUE}
 use Rattle.database_build.specs.declared.folding.TheConstants.{MOST_PLACES, PLACES_A_VALUE}
 
--- the value that a byte stands for: 255 stands for NO_VALUE
+-- the value that a byte encodes: 255 encodes `NO_VALUE`
 abbrev pub widened : ℕ → ℕ
 widened byte = if byte == 255 then NO_VALUE else byte
 
@@ -19,7 +19,7 @@ widened byte = if byte == 255 then NO_VALUE else byte
 abbrev pub slot_of_rank : GroupModel → ℕ → ℕ
 slot_of_rank g rank = sparse_of (digit_base g.grid) (list_at (cell_count g.grid) (suc (length g.tiles)) rank)
 
--- what stands at the slots of all views, by rank
+-- the entries at the slots of all views, by rank
 unfoldable pub by_rank : GroupModel → (ℕ → ℕ) → List ℕ
 by_rank g at_slot = map (λ rank. at_slot (slot_of_rank g rank)) (range_with_len 0 (size_of g))
 

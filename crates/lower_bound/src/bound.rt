@@ -39,7 +39,7 @@ pub const GREATEST_SUM: u32 = 1_572_840;
 pub struct Bound {
     partition: Partition,
     held: Held,
-    // Of each number that may be a tile the place of the group that has it.
+    // For each number that may be a tile, the place of the group that has it.
     by_tile: [usize; 25],
     // Whether its tables are read by digits of search keys.
     by_digits: bool,

@@ -41,7 +41,7 @@ pub fn listed_tables_are_one_each()
     ensures { ListedTablesAreOneEach }
 {}
 
-/// A move leaves each tile but one where it stood.
+/// A move keeps each tile except one on its cell.
 pub fn moves_move_one_tile()
     ensures { MovesMoveOneTile }
 {}
@@ -51,14 +51,14 @@ pub fn values_add_up()
     ensures { ValuesAddUp }
 {}
 
-/// Of groups that share no tile one at most has a tile, and stands at the tile's place. Where none
-/// has it, the place is behind the last group.
+/// Where no two groups share a tile, at most one has a tile, and it is at the tile's place. Where
+/// none has it, the place is behind the last group.
 pub fn a_tile_has_one_group()
     ensures { ATileHasOneGroup }
 {}
 
 /// Where whole tables are potentials, a move changes the value of one group at most: that of the
-/// tile that moves. Of folded tables it does so whatever they hold.
+/// tile that moves. With folded tables it does so whatever they hold.
 pub fn moves_change_one_value()
     ensures { MovesChangeOneValue }
 {}

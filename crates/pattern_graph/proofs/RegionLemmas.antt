@@ -139,9 +139,9 @@ all_settled grid cells labels are settled = record {
 
 -- ---- numbers of regions, one cell after another
 
--- ---- how many tiles stand below the next cell
+-- ---- how many tiles are below the next cell
 
--- as many as below the cell before it, if none stands there
+-- as many as below the cell before it, if none is on that one
 next_free : (cell : ℕ) (cells : List ℕ) → ¬ Contains cells cell → below (cell + 1) cells ≡ below cell cells
 next_free cell cells free = ap (λ (k : ℕ). below k cells) (add-one cell) ∙ below_absent cell cells free
 

@@ -1,4 +1,4 @@
-//! Orders: how tiles stand on a set of cells, whatever the cells are.
+//! Orders: how tiles lie on a set of cells, whatever the cells are.
 
 ghost use Rattle.std.specs.Prelude.{ℕ, ◌≡◌, ◌+◌, ◌<◌, ◌≤◌, ◌==◌, ◌++◌, length, map, All, IfOk};
 ghost use Rattle.std.specs.Prelude.{OnOk};
@@ -42,7 +42,7 @@ pub(crate) fn count_below(cells: &[u8], cell: u8) -> usize
     count
 }
 
-// The order of the cells on which tiles stand.
+// The order of the cells that tiles are on.
 pub(crate) fn order_of(cells: &[u8]) -> usize
     requires { length cells.now ≤ 9 }
     ensures value { result ≡ order_of cells.now }
@@ -57,7 +57,7 @@ pub(crate) fn order_of(cells: &[u8]) -> usize
     order
 }
 
-// Writes for each tile how many tiles stand on smaller cells, by their order.
+// Writes for each tile the number of tiles on smaller cells, by their order.
 pub(crate) fn write_positions(order: usize, positions: &mut [u8])
     requires { IsOrderOf (length positions.old) order }
     ensures { positions.new ≡ positions_at (length positions.old) order }

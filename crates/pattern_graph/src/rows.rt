@@ -117,7 +117,7 @@ pub fn rank_least(alloc: Global, group: &Group, least: &[u16]) -> Result<Vec<u16
     Ok(values)
 }
 
-/// Marks the cells of a list, none of which is there twice.
+/// Marks the cells of a list of different cells.
 pub fn mark_cells(cells: &[u8]) -> [bool; 25]
     requires { IsListing 25 cells.now }
     ensures size { length result ≡ 25 }

@@ -21,8 +21,9 @@ use memory::{OutOfMemory, push};
 use pattern_index::{Group, digit_base, sparse_place};
 use std::alloc::Global;
 
-/// The positions of all tiles in each order of `count` tiles, 0 to 9: on how many smaller cells others
-/// stand. There are `count` for each order, one order after another. The error is `OutOfMemory`.
+/// The positions of all tiles in each order of `count` tiles, 0 to 9. A tile's position is the number
+/// of tiles on smaller cells. There are `count` for each order, one order after another. The error is
+/// `OutOfMemory`.
 pub fn find_positions(alloc: Global, count: usize) -> Result<Vec<u8>, OutOfMemory>
     requires { count ≤ 9 }
     ensures { IfOk result (λ all. ArePositions count all.items) }
@@ -86,7 +87,7 @@ fn write_set<T: Copy>(regions: &Regions, positions: &[u8], set: usize, nodes: &[
     }
 }
 
-/// Writes on which cell each tile stands, by its position among the cells.
+/// Writes the cell of each tile, by its position among the cells.
 pub fn place_tiles(cells: &[u8], positions: &[u8], placed: &mut [u8])
     requires { AreIndices (length cells.now) positions.now placed.old }
     ensures { placed.new ≡ map (slice_index cells.now) positions.now }

@@ -40,7 +40,7 @@ pub record IsUnion (Added : ℕ → ℕ → Type 0) (s s' : NodeSet) : Type 0 wh
 abbrev pub AreBelow : ℕ → ℕ → ℕ → Type 0
 AreBelow orders place bits = (order : ℕ) → IsIn place bits order → order < orders
 
--- the cost stands at each place whose bit is set, from the first on, and all others are kept
+-- the cost is at each place from the first on whose bit is set, and all others are kept
 pub record IsWritten (first bits cost : ℕ) (values values' : List ℕ) : Type 0 where
   pub size : length values' ≡ length values
   pub written : (bit : ℕ) → IsIn 0 bits bit → slice_index values' (first + bit) ≡ cost
