@@ -62,7 +62,7 @@ pub(crate) fn keep_values(
     Ok(Entries::Bytes(bytes))
 }
 
-// What views have at their slots, where what nodes have is given.
+// The slots of views, each with what the view's node has in `nodes`.
 fn fill_slots<T: Copy>(
     alloc: Global,
     group: &Group,
@@ -112,7 +112,7 @@ fn has_many_places(group: &Group) -> bool
     group.sparse_size() > MOST_PLACES.min(PLACES_A_VALUE * group.folded_size())
 }
 
-// What placements have at their sparse places, where what they have is given.
+// The sparse places of placements, each with what the placement has in `least`.
 fn fill_places<T: Copy>(
     alloc: Global,
     group: &Group,

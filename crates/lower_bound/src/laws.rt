@@ -41,7 +41,7 @@ pub fn listed_tables_are_one_each()
     ensures { ListedTablesAreOneEach }
 {}
 
-/// A move keeps each tile except one on its cell.
+/// A move moves one tile: each other tile keeps its cell.
 pub fn moves_move_one_tile()
     ensures { MovesMoveOneTile }
 {}

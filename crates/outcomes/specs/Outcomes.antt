@@ -63,8 +63,8 @@ best_of (Some best) = Some (best.0, best.1.items)
 abbrev pub IsAboveSums : Task → ℕ → Type 0
 IsAboveSums task most = (b : BoardModel) → IsBoard b → b.grid ≡ task.goal.grid → task.sum b ≤ most
 
--- No plan costs less than the bound. The bound is at least the sum of the start, and at most `GREATEST_COST` plus any number that no board's
--- sum is above. The best plan and the cause are allowed with this bound.
+-- No plan costs less than the bound. The bound is at least the heuristic of the start, and at most `GREATEST_COST` plus any number that no
+-- board's heuristic is above. The best plan and the cause are allowed with this bound.
 abbrev pub IsTrueBound : Task → ℕ → Option (ℕ × Vec Move Global) → Cause → Type 0
 IsTrueBound task bound best cause =
     NothingBelow task.rule task.start task.goal bound × (task.sum task.start ≤ bound) × ((most : ℕ) → IsAboveSums task most → bound ≤ GREATEST_COST + most)

@@ -91,7 +91,7 @@ pub enum Outcome {
 }
 
 impl Outcome {
-    /// The same without rows, which are given back.
+    /// The same without rows, which are freed.
     pub fn without_rows(self) -> Ending
         ensures { result ≡ without_rows self }
     {

@@ -53,7 +53,7 @@ impl Edges {
         Ok(edges)
     }
 
-    // The same once more.
+    // A copy.
     pub(crate) fn copy(&self, alloc: Global) -> Result<Self, OutOfMemory>
         ensures starts { IfOk result (λ copy. copy.starts.items ≡ self.now.starts.items) }
         ensures edges { IfOk result (λ copy. copy.edges.items ≡ self.now.edges.items) }

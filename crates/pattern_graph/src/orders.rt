@@ -14,7 +14,7 @@ ghost use Rattle.pattern_graph.specs.Graphs.{AreMoves, HasPasses, HasPassesTo, I
 use memory::{OutOfMemory, copy_of, push};
 use std::alloc::Global;
 
-/// The numbers from 1 to this one multiplied: how many orders this many tiles have.
+/// The product of the numbers from 1 to this one: how many orders this many tiles have.
 pub fn factorial(count: usize) -> usize
     requires { count ≤ 9 }
     ensures value { result ≡ factorial count }
@@ -97,7 +97,7 @@ pub struct Orders {
     tiles: Vec<u8>,
     // The order after the tiles at a position and at the next one are exchanged, by order.
     passes: Vec<u32>,
-    // The order after the tile at a position has come to another, by both and then by order; nothing
+    // The order after the tile at a position has come to another, by both and then by order. Empty
     // where there are more than `MOST_MOVED` tiles.
     moves: Vec<u32>,
 }
@@ -124,7 +124,7 @@ impl Orders {
         Ok(orders)
     }
 
-    // The same once more.
+    // A copy.
     pub(crate) fn copy(&self, alloc: Global) -> Result<Self, OutOfMemory>
         ensures { (count : ℕ) → IsOrders count self.now → IfOk result (IsOrders count) }
     {

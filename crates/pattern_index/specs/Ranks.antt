@@ -1,7 +1,7 @@
 -- Lists of different cells, and their ranks.
 use Rattle.std.specs.Prelude.{◌≢◌, ℕ, zero, suc, ◌+◌, ◌-◌, ◌*◌, ◌/◌, ◌%◌, ◌<◌, List, [], ◌∷◌, map, length, All, AllPairs, count_by, nat_lt, nat_le, if◌then◌else◌}
 
--- in how many ways r cells of n, no two the same, can be listed
+-- the number of ways to list r of n cells, no two the same
 unfoldable pub ways : ℕ → ℕ → ℕ
 ways n zero = 1
 ways n (suc r) = n * ways (n - 1) r

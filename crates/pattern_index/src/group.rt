@@ -145,8 +145,8 @@ impl Group {
         self.size
     }
 
-    /// The number of ways to place its tiles, wherever the blank is: N! / (N - k)! for k tiles and N
-    /// cells.
+    /// The number of ways to place its tiles, wherever the blank is: N! / (N - k)! for k tiles and
+    /// N cells.
     pub fn folded_size(&self) -> usize
         ensures value { result ≡ folded_size_of self.now }
         ensures quotient { result ≡ factorial (cell_count self.now.grid)
@@ -295,7 +295,7 @@ impl Group {
     }
 
     /// The place of the views that have a sparse place: the rank of its digits. None where two of
-    /// these are the same: no view has that.
+    /// these are the same, since no view has such a sparse place.
     pub fn place_of_sparse(&self, sparse: usize) -> Option<usize>
         ensures some { IfSome result (λ place. place < folded_size_of self.now) }
         ensures view { (v : ViewModel) → IsView self.now.grid self.now.tiles v

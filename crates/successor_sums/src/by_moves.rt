@@ -11,8 +11,8 @@ use std::marker::Model;
 /// The most moves from a board.
 pub const MOVES: usize = 4;
 
-/// Items for some of the four moves: entries in the order of the moves, with no gap. A loop over them
-/// has as many rounds as there are entries, and doesn't test whether an entry is there.
+/// Items for some of the four moves: entries in the order of the moves, with no gap. A loop over
+/// them has as many rounds as there are entries, and doesn't test whether an entry is there.
 #[derive(Debug, Drop)]
 pub struct ByMoves<T> {
     moves: [Move; MOVES],

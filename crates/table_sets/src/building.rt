@@ -154,7 +154,7 @@ fn build_side_by_side<T: GroupTable + Send>(
     take_tables(alloc, places)
 }
 
-// So many places where nothing is built yet.
+// This many places where nothing is built yet.
 fn empty_places<T: Drop>(alloc: Global, count: usize) -> Result<Vec<Place<T>>, OutOfMemory>
     requires { count ≤ 24 }
     ensures { IfOk result (λ places. length places.items ≡ count) }

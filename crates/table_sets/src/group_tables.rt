@@ -16,7 +16,7 @@ use std::alloc::Global;
 pub(crate) trait GroupTable: Drop {
     ghost is_true: { WeightsModel → BoardModel → GroupModel → Self → Type 0 };
 
-    // That of a group for a goal and weights, in one of these frames where one fits it.
+    // The table of a group for a goal and weights, in one of these frames where one fits it.
     fn build_for(
         alloc: Global,
         frames: &[Frame],
