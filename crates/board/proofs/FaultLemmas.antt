@@ -72,7 +72,7 @@ all_seen grid numbers place seen sides one_each end before =
       different = subst (λ (ts : List ℕ). AllPairs (λ x y. x ≢ y) ts) all before.different;
     }
 
--- different numbers have no number that an earlier place has too
+-- no place of a list of different numbers has the number of an earlier place
 not_repeated : (numbers : List ℕ) (place : ℕ) → place < length numbers → AllPairs (λ x y. x ≢ y) numbers → Contains (take place numbers) (get_or numbers place 0) → ⊥
 not_repeated numbers place within different (k, inside, is) =
     let before : k < place = omega (arith, inside, length-take place numbers) in

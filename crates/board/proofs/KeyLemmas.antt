@@ -47,11 +47,11 @@ digits_of-packed (suc n) xs within below =
     let rest : digits_of n (packed_number (take n xs)) ≡ take n xs = digits_of-packed n xs (omega arith) below in
     cc
 
--- of two numbers to the base n the one with the smaller first digits is smaller
+-- a number to the base n with smaller first digits is smaller
 first_smaller : (n x y p q : ℕ) → x < y → p < n → x * n + p < y * n + q
 first_smaller n x y p q less low = let e : suc x * n ≤ y * n = mul-le (suc x) n y n less (omega arith) in omega arith
 
--- of two numbers to the base n the first digits decide, and where they are the same the last one
+-- the first digits of two numbers to the base n decide their order, and where they are the same the last one does
 first_decides : (n x y p q : ℕ) → p < n → q < n → (x * n + p < y * n + q) ↔ ((x < y) ⊎ ((x ≡ y) × (p < q)))
 first_decides n x y p q low high = (
   (λ less. elim (cases_order x y) [

@@ -241,7 +241,7 @@ written_again {A} g least was new items filler len count size long is copies cou
     subst (λ (xs : List A). AreAllWritten g least xs (take len (new ++ drop (length new) items))) start
     (subst (λ (xs : List A). AreAllWritten g least was xs) (sym (all_written len new was items long is written.size)) written)
 
--- the value that a byte encodes, which was kept for it
+-- a value is read back from the byte that was kept for it
 byte_back :
     (values narrow bytes : List ℕ) (i j : ℕ)
     → j < length values
@@ -315,7 +315,7 @@ replicated n i a x is =
     let low = slice_get_within (replicate n a) i x is in
     sym (get_or_from_slice_get (replicate n a) i x a is) ∙ get_or-replicate n i a a (let all = length-replicate n a in omega (arith, all, low))
 
--- where no view has a place that was not written, what was there is there
+-- a sparse place that no view has keeps the filler
 pub others_kept : {A : Type 0} (g : GroupModel) (least places : List A) (filler : A) → AreAllWritten g least (replicate (sparse_size_of g) filler) places → (sparse : ℕ) (entry : A) → HasNoView g sparse → slice_get places sparse ≡ Some entry → entry ≡ filler
 others_kept g least places filler written sparse entry none is = replicated (sparse_size_of g) sparse filler entry (sym (written.others sparse none) ∙ is)
 

@@ -515,7 +515,7 @@ blank_view grid numbers tiles cells marks blank end group long written is_placed
 pub blank_kept : (grid : ShapeModel) (numbers tiles cells : List ℕ) (blank : ℕ) → AreGroupTiles grid tiles → length numbers ≡ 25 → map (slice_index numbers) tiles ≡ cells → map (slice_index (set numbers 0 blank)) tiles ≡ cells
 blank_kept grid numbers tiles cells blank group long written = ap (λ (v : ViewModel). v.cells) (blank_put grid numbers tiles cells blank group (omega (arith, long)) written)
 
--- ---- the least value over the blank's places
+-- ---- the least value over the blank's cells
 
 -- a view with the tiles on these cells has this value
 abbrev pub HasView : TableModel → List ℕ → ℕ → Type 0

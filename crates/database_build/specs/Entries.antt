@@ -73,7 +73,7 @@ least_in g (Ranked least) = least.items
 least_in g (Bytes bytes) = by_place g (λ sparse. widened (slice_index bytes.items sparse))
 least_in g (Words words) = by_place g (slice_index words.items)
 
--- the most sparse places that are kept of a group: the smaller of `MOST_PLACES` and of `PLACES_A_VALUE` for each value
+-- the most sparse places that are kept of a group: the smaller of `MOST_PLACES` and `PLACES_A_VALUE` for each value
 abbrev pub most_places : GroupModel → ℕ
 most_places g = min MOST_PLACES (PLACES_A_VALUE * folded_size_of g)
 

@@ -163,7 +163,7 @@ module _ {X : Type 0} (selection : X → GroupModel) (groups : List GroupModel) 
   pub has_tile : (tile i : ℕ) (d : X) → IsGroupWith groups tile i → i < length xs → Contains (selection (get_or xs i d)).tiles tile
   has_tile tile i d with i_in = let count = count in subst (λ (s : GroupModel). Contains s.tiles tile) (group_at i d i_in) (with.some (omega (arith, i_in, count)) (selection d))
 
--- where no two groups share a tile
+-- two values of each item, the same where its group doesn't have the tile
 module _ {X : Type 0} (selection : X → GroupModel) (groups : List GroupModel) (xs : List X) (of : map selection xs ≡ groups) (f g : X → ℕ) (tile : ℕ) (others : All (λ x. ¬ Contains (selection x).tiles tile → f x ≡ g x) xs) where
   -- where one has the tile, its value alone changes
   pub changed : AreApart groups → (i : ℕ) (d : X) → IsGroupWith groups tile i → i < length xs → sum_by f xs + g (get_or xs i d) ≡ sum_by g xs + f (get_or xs i d)

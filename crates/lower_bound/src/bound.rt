@@ -120,7 +120,7 @@ impl Bound {
         })
     }
 
-    /// The bound by the same tables, folded: each whole one is freed when it was folded.
+    /// The bound by the same tables, folded: each whole one is freed once it is folded.
     /// Where they are potentials, or were folded from such, so are the folded ones. A bound that
     /// has no whole table stays as it is. An error is answered only where memory was refused.
     pub fn folded(self, alloc: Global) -> Result<Self, OutOfMemory>
@@ -408,7 +408,7 @@ fn are_folds_of(groups: &[Group], folds: &[Folded]) -> bool
     true
 }
 
-// The tables, folded; each is freed when it was folded. Where there is none, no memory is refused.
+// The tables, folded; each is freed once it is folded. Where there is none, no memory is refused.
 #[tactic(auto, using(crate::proofs::PartLemmas::folded_more))]
 fn fold_all(alloc: Global, tables: Vec<Table>) -> Result<Vec<Folded>, OutOfMemory>
     requires { length tables.items ≤ 24 }

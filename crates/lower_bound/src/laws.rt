@@ -63,8 +63,8 @@ pub fn moves_change_one_value()
     ensures { MovesChangeOneValue }
 {}
 
-/// A folded table tells both values by sparse place, or one is not there, or the table has too many
-/// sparse places.
+/// A folded table has both values and tells them by sparse place; or one is missing, or the table
+/// has too many sparse places.
 pub fn both_are_told_or_not()
     ensures { BothAreToldOrNot }
 {}

@@ -53,7 +53,7 @@ moved_away from to x ne = grind (arith, nat_tests)
 map_more : (f : ℕ → ℕ) (xs ys : List ℕ) → ((x : ℕ) → Contains xs x → Contains ys x) → (z : ℕ) → Contains (map f xs) z → Contains (map f ys) z
 map_more f xs ys more z has = let h = from_map f xs z has in subst (Contains (map f ys)) h.2 (in_map f ys h.0 (more h.0 h.1))
 
--- the set after an exchange hangs on the set alone
+-- the set after an exchange depends only on the set
 pub replaced_same : (from to : ℕ) (xs ys : List ℕ) → AreSame xs ys → AreSame (replaced from to xs) (replaced from to ys)
 unfolding moved
 replaced_same from to xs ys same z = (map_more (moved from to) xs ys (λ x. (same x).0) z, map_more (moved from to) ys xs (λ x. (same x).1) z)
@@ -442,7 +442,7 @@ module _ (r : Regions) (all : List ℕ) (tile to : ℕ) (placed : IsPlaced r.sha
   unfolding kept_cells
   after = still_placed r kept_cells tile to placed inside free
 
-  -- the kept_cells after a tile's move
+  -- the cells after a tile's move are placed
   pub moved_placed : IsPlaced r.shape r.count (take r.count (set all tile to))
   unfolding kept_cells
   moved_placed = subst (IsPlaced r.shape r.count) (sym (take_set r.count all tile to inside)) after.0

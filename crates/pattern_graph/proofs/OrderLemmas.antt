@@ -79,7 +79,7 @@ below_step z (x ∷ xs) differ =
     (λ (ne : x ≢ z). grind (arith, nat_tests, below_step z xs differ.1, below-cons (suc z) x xs, below-cons z x xs))
     (cases_eq x z)
 
--- of different numbers not more than z are below z
+-- at most z of different numbers are below z
 pub below_low : (z : ℕ) (xs : List ℕ) → Differ xs → below z xs ≤ z
 below_low zero xs differ = let e = below-zero xs in omega (arith, e)
 below_low (suc z) xs differ = omega (arith, below_low z xs differ, below_step z xs differ)

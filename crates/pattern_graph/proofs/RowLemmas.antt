@@ -107,7 +107,7 @@ below_gap (suc j) c xs differ =
     let s = below_step (j + c) xs differ in
     omega (arith, rest, f, s)
 
--- of two free cells the greater has more free cells below it
+-- the greater of two free cells has more free cells below it
 pub free_less : (z c : ℕ) (xs : List ℕ) → Differ xs → z < c → ¬ Contains xs z → z - below z xs < c - below c xs
 free_less z c xs differ lt free =
     let g = below_gap (c - suc z) (suc z) xs differ in

@@ -282,7 +282,7 @@ rank_order (suc n) (x ∷ xs) (y ∷ ys) bx dx by' dy same (inr both) =
     let ey : rank_of (suc n) (y ∷ ys) ≡ x * ways n (length xs) + rank_of n (map (squeeze x) ys) = rank_of-cons n y ys dy.0 ∙ (λ i. sym both.0 i * wy i + rank_of n (map (squeeze (sym both.0 i)) ys)) in
     omega arith
 
--- of two lists of one length that differ one precedes the other
+-- one of two lists of one length that differ precedes the other
 in_some_order : (xs ys : List ℕ) → length xs ≡ length ys → Precedes xs ys ⊎ ((xs ≡ ys) ⊎ Precedes ys xs)
 in_some_order [] [] same = inr (inl refl)
 in_some_order [] (y ∷ ys) same = absurd (omega arith)

@@ -143,7 +143,7 @@ none_added A s none = record {
   members = λ r order lt. (λ has. inl has, ⊎_elim (λ (h : Has s r order). h) (λ (a : A r order). absurd (none r order a)));
 }
 
--- of a word with one set bit, one order is in it
+-- one order is in a word with one set bit
 pub one_order : (order other : ℕ) → IsIn (order / 64) (1 * 2 ^ (order % 64) % 2 ^ 64) other ↔ (other ≡ order)
 one_order order other = (
   λ is. ⊎_elim

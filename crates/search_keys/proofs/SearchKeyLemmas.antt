@@ -1,4 +1,4 @@
--- Search keys: that a board and its key tell one another, how large a key is, and which digits a move exchanges.
+-- Search keys: that a board and its key determine each other, how large a key is, and which digits a move exchanges.
 use Rattle.std.proofs.Common.{Some, ◌≡◌, ◌≢◌, ℕ, zero, suc, ◌+◌, ◌*◌, ◌/◌, ◌%◌, ◌^◌, ◌<◌, ◌≤◌, Bool, true, false, cond, eqb, List, [], ◌∷◌, length, map, take, drop, set, get_or, refl, sym, ap, ◌∙◌, subst, ⊎_elim, arith}
 use Rattle.std.specs.Prelude.{All, AllPairs, nat_le, slice_index}
 use Rattle.std.specs.List.{range_with_len}
