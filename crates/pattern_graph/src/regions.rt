@@ -1,5 +1,5 @@
-//! Regions: the cells that the blank reaches past tiles of no group, while the tiles of a group stay
-//! where they are.
+//! Regions: the cells that the blank reaches past tiles of no group, while the tiles of a group
+//! stay where they are.
 
 ghost use Rattle.std.specs.Prelude.{ℕ, suc, ◌≡◌, ◌<◌, ◌≤◌, ◌+◌, ◌^◌, ◌↔◌};
 ghost use Rattle.std.specs.Prelude.{IfOk, IsTrue, Contains};
