@@ -56,7 +56,7 @@ impl<R: Reader> ByteSource<R> {
         }
     }
 
-    /// The reader, which stands after the last byte that was given.
+    /// The reader, positioned after the last byte that was given.
     pub fn into_inner(self) -> R
         ensures { result ≡ inner_reader self }
     {
