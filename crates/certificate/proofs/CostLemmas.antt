@@ -182,7 +182,7 @@ bytes_below [] all i inside = absurd (omega (arith, inside))
 bytes_below (b ∷ text) all zero inside = all.0
 bytes_below (b ∷ text) all (suc i) inside = bytes_below text all.1 i (omega (arith, inside))
 
--- bytes of which none is 0 are a cost rule
+-- bytes are a cost rule where none of them is 0
 above_is_rule : (grid : ShapeModel) (text : List ℕ) → IsShape grid → length text ≡ cell_count grid - 1 → All (λ weight. weight < 256) text → All (λ weight. 0 < weight) text → AreWeights (listed_rule grid text)
 above_is_rule grid text sides counted small above = listed_is_rule grid text sides counted above small
 

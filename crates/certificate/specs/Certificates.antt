@@ -50,7 +50,7 @@ pub record AreCostsOf (grid : ShapeModel) (costs : WeightsModel) : Type 0 where
   pub rule : AreWeights costs
   pub sides : costs.grid ≡ grid
 
--- groups of tiles of this grid's boards, of which no two share one
+-- groups of tiles of this grid's boards, and no two groups share a tile
 pub record IsSplitOf (grid : ShapeModel) (groups : PartitionModel) : Type 0 where
   pub split : IsPartition groups
   pub sides : groups.grid ≡ grid

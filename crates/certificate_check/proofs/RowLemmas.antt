@@ -385,7 +385,7 @@ pub not_closed_there : (c : CertificateModel) (t : BoundModel) (from end place :
 not_closed_there c t from end place low less None opened some closed = true≢false (sym some)
 not_closed_there c t from end place low less (Some m) opened some closed = closed place m low less opened
 
--- all rows are closed where those are that there are
+-- where all rows are closed, no row leaves a board open
 pub all_closed : (c : CertificateModel) (t : BoundModel) (end : ℕ) → length c.rows ≤ end → AreClosed c t 0 end → (place : ℕ) (m : Move) → LeavesOpenAt c t place m → ⊥
 all_closed c t end all closed place m o = let within = slice_get_within c.rows place o.0 o.1 in closed place m (omega arith) (omega (arith, within, all)) o
 
