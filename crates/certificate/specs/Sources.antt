@@ -118,7 +118,8 @@ pub record StopsAtFault (source : Change SourceState) (fault : ReadFault) : Type
   pub is : IfFormat fault (λ f. IsFirstFormatFault seen f)
   pub stops : StopsAt (λ bytes. HasNoFault certificate bytes) source seen fault
 
--- A certificate is read: the answer tells of the input, it is a failure exactly where the source has failed, and no more is taken than the spelling or than shows the fault.
+-- A certificate is read. The answer tells of the input, and it is a failure exactly where the source has failed. No more is taken than the
+-- spelling, or than shows the fault.
 pub record ReadsCertificate (source : Change SourceState) (result : Result CertificateModel ReadFault) : Type 0 where
   pub tells : IfSome source.before.left (TellsOfInput result)
   pub answer : IfSome source.before.left (IsAnswerTo result)
