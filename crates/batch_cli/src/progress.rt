@@ -1,4 +1,4 @@
-//! Progress and figures, where the words ask for them.
+//! Progress and figures, where the arguments ask for them.
 
 use batch_runs::Stats;
 use hda_run::{Gate, Kind, World};
