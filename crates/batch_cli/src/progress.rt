@@ -59,7 +59,7 @@ impl<W: Watch> Watch for WhereAsked<'_, W> {
     }
 }
 
-/// A watch that nobody keeps.
+/// A watch that does nothing.
 #[derive(Clone, Copy)]
 pub(crate) struct Unkept;
 

@@ -125,7 +125,8 @@ impl<W: Writer> Sink for ByteSink<W> {
     }
 }
 
-// One write of a text that is not empty. A writer that takes none of it would take none for ever.
+// One write of a text that is not empty. A writer that takes none of it may never take any, so that
+// counts as a failure.
 fn write_some<W: Writer>(writer: &mut W, bytes: &[u8]) -> Result<usize, WriteFailed>
     requires { 0 < length bytes.now }
     ensures bound { IfOk result (λ n. (0 < n) × (n ≤ length bytes.now)) }

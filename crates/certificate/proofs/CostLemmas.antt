@@ -125,7 +125,7 @@ face_of costs is = subst (IsKind costs) is (kind_says costs)
 pub unit_kind : (grid : ShapeModel) → cost_kind_of (unit_rule grid) ≡ 0
 unit_kind grid = let same : rule_eq (unit_rule grid) (unit_rule grid) ≡ true = (rules_Decide (unit_rule grid) (unit_rule grid)).1 refl in rw same refl
 
--- neither of both
+-- costs that are neither are of kind 2
 other_kind : (costs : WeightsModel) → (costs ≡ unit_rule costs.grid → ⊥) → (costs ≡ face_rule costs.grid → ⊥) → cost_kind_of costs ≡ 2
 other_kind costs no_unit no_face =
     let unit : rule_eq costs (unit_rule costs.grid) ≡ false = not_true _ (λ e. no_unit ((rules_Decide costs (unit_rule costs.grid)).0 e)) in

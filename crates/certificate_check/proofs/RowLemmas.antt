@@ -212,7 +212,7 @@ lower_up_to rows key place e found sorted within is low k d less =
     let below = sorted k place d (omega (arith, less)) within in
     omega (arith, here, below, low, is)
 
--- where a row's key is not lower, nor are those behind it
+-- where a row's key is not lower, those behind it are not lower either
 pub not_lower_from : (rows : Rows) (key place : ℕ) (e : BoardModel × ℕ) (found : ℕ) → IsNonDecreasingBy row_key rows → found ≡ row_key (get_or rows place e) → key ≤ found → AreNotLower rows key place
 not_lower_from rows key place e found sorted is high k d from within =
     let here : row_key (get_or rows place e) ≡ row_key (get_or rows place d) = ap row_key (get_or_default rows place e d (omega (arith, from, within))) in

@@ -117,7 +117,7 @@ NeedsReport (answered id ending) = IsUncertified ending
 abbrev pub report_of : ℕ → Answer → Output
 report_of n answer = record { text = answer_text n answer; status = status_of_counts (with_answer no_lines answer) }
 
--- the report of a line with these bytes, as in a batch, but of an outcome without rows, where there is no certificate
+-- the report of a line with these bytes, as in a batch, where there is no certificate for the answer
 abbrev pub ReportsLine : ProofRules → Line → List ℕ → Output → Type 0
 ReportsLine rules line bytes output = (answer : Answer) × AnswersKind (report_rules rules) line.kind bytes answer × NeedsReport answer × (output ≡ report_of line.number answer)
 

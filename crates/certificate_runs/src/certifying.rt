@@ -290,17 +290,17 @@ fn tell_entries(bound: &Bound)
     }
 }
 
-// No entry of these tables is.
+// The same for whole tables.
 fn tell_whole(tables: &[Table])
     ensures { All HasSmallEntries tables.now }
 {
     'tables: for place in 0..tables.len() {
-        // (that no value is greater is among what the call promises)
+        // The contract of this call says that no value of the table is greater.
         let _ = tables[place].group();
     }
 }
 
-// Nor one of these, which are folded.
+// The same for folded tables.
 fn tell_folded(folds: &[Folded])
     ensures { All HasSmallFolds folds.now }
 {

@@ -29,9 +29,9 @@ use table_sets::build_bound;
 const PARALLEL_ROWS: usize = 4_096;
 
 /// Checks the certificate that the source spells with tables that are built for its groups, and
-/// writes one line: the least cost or the bound, or the code of the first fault. Answers the status:
-/// 0 where it is accepted, 5 where it is refused. Several threads build large tables side by side,
-/// and check many rows side by side.
+/// writes one line: the least cost or the bound, or the code of the first fault. Answers the
+/// status: 0 where it is accepted, 5 where it is refused. Several threads build large tables side
+/// by side, and check many rows side by side.
 ///
 /// Nothing is written where the source fails, or where there is no memory for the certificate, for
 /// its tables or for the line. Nothing is flushed.

@@ -54,7 +54,7 @@ group_at grid (t ∷ texts) [] place text made at = absurd made
 group_at grid (t ∷ texts) (g ∷ groups) zero text made at = (g, subst (λ (bytes : List ℕ). IsGroupOf grid bytes g) (same_Some t text at) made.0)
 group_at grid (t ∷ texts) (g ∷ groups) (suc place) text made at = group_at grid texts groups place text made.1 at
 
--- texts say as many groups, and groups of the same tiles, whoever reads them
+-- two lists of groups that the same texts say are as long, and their groups are of the same tiles
 same_count : (grid : ShapeModel) (texts : List (List ℕ)) (ones others : List GroupModel) → AreGroupsOf grid texts ones → AreGroupsOf grid texts others → length ones ≡ length others
 same_count grid [] [] [] one other = refl
 same_count grid [] (g ∷ ones) others one other = absurd one
