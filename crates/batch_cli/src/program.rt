@@ -40,9 +40,9 @@ pub fn run_program<R: Threads + Wait + Sync, S: Source, K: Sink, E: Sink>(
     run_with_progress(rt, alloc, words, source, sink, errors, &Unkept)
 }
 
-/// Runs the program as `run_program` does, under a watch. It is passed after each step of the
-/// search where the arguments ask for progress, and takes the figures of lines where they ask for
-/// these.
+/// Runs the program as `run_program` does, under a watch. The watch is passed after each step of
+/// the search where the arguments ask for progress. It takes the figures of lines where they ask
+/// for these.
 pub fn run_with_progress<R: Threads + Wait + Sync, S: Source, K: Sink, E: Sink, W: Watch + Sync>(
     rt: &R,
     alloc: Global,
