@@ -21,7 +21,7 @@ use std::alloc::Global;
 // An odd number with no pattern in its bits.
 const FACTOR: u128 = 0x9E37_79B9_7F4A_7C15_F39C_C060_5CED_C835;
 
-// Of how many slots a bucket has the places and the hashes.
+// The number of slots whose places and hashes a bucket has.
 const ENTRIES: usize = 7;
 
 // How many slots there are for each chain, where there are more than the first ones.
@@ -118,7 +118,7 @@ pub(crate) fn hash(key: u128) -> u32
     (key.wrapping_mul(FACTOR) >> 96) as u32
 }
 
-// How many chains there are for so many slots.
+// The number of chains for `len` slots.
 pub(crate) fn chain_count_of(len: usize) -> usize
     requires { len ≤ 2 ^ 33 }
     ensures { result ≡ chain_count len }
@@ -129,7 +129,7 @@ pub(crate) fn chain_count_of(len: usize) -> usize
     ((len + (LOAD - 1)) / LOAD).max(FIRST_CHAINS)
 }
 
-// The chain to which a hash belongs, among so many chains.
+// The chain to which a hash belongs, among this number of chains.
 fn chain_of(hash: u32, bits: u32, chains: usize) -> usize
     requires { AreBitsFor bits chains }
     ensures { result ≡ place bits chains hash }

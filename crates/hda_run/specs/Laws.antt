@@ -37,7 +37,7 @@ use Rattle.hda_run.specs.declared.parts.Parts.{Parts}
 
 -- ---- one worker alone
 
--- where no bound is told though a board is open, the goal is known
+-- in a world without a bound where a board is open, the goal is known
 abbrev pub WithoutABoundTheGoalIsKnown : Type 0
 WithoutABoundTheGoalIsKnown = (w : WorldState) (b : BoardModel) (cost : ℕ) → IsWithoutBound w → IsInFrontier w b cost → (known : Known) × Knows w 0 w.task.goal known
 
@@ -61,7 +61,7 @@ BoundsAreOfTheirWorlds {S} owner_of =
 abbrev pub RunsAloneStop : Type 0
 RunsAloneStop = (job : Job) (w : WorldState) → IsRunAlone job w → (w.book.stop ≢ None) × (w.book.stop ≢ Some stops.Start)
 
--- where it is quiet, steps of which none is a halt lead to it from the opening world
+-- where it is quiet, steps without a halt lead to it from the opening world
 abbrev pub QuietRunsHaveNoHalt : Type 0
 QuietRunsHaveNoHalt =
     (job : Job) (w : WorldState)

@@ -76,7 +76,7 @@ pub trait Gate {
     {}
 }
 
-/// A gate that stands open.
+/// A gate that is always open.
 #[derive(Clone, Copy, Debug)]
 pub struct Free;
 

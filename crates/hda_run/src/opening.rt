@@ -138,7 +138,7 @@ fn first_worker<S: Spread>(
     Ok(worker)
 }
 
-// For each of so many workers a lane to each of them.
+// For each worker an empty lane to each worker.
 fn empty_lanes(alloc: Global, workers: usize) -> Result<Vec<Vec<Queue<Plain>>>, OutOfMemory>
     requires { workers ≤ WORKER_LIMIT }
     ensures { IfOk result (λ made. map (λ to_each. to_each.items) made.items
@@ -152,7 +152,7 @@ fn empty_lanes(alloc: Global, workers: usize) -> Result<Vec<Vec<Queue<Plain>>>, 
     Ok(made)
 }
 
-// A lane to each of so many workers.
+// An empty lane to each worker.
 fn lanes_to_each(alloc: Global, workers: usize) -> Result<Vec<Queue<Plain>>, OutOfMemory>
     requires { workers ≤ WORKER_LIMIT }
     ensures { IfOk result (λ made. made.items ≡ replicate workers []) }

@@ -160,7 +160,7 @@ fn answer_step<K: Sink, R: Run>(
     }
 }
 
-// Writes a word on a line of its own, passes it on, and answers what is told of it.
+// Writes a word on a line of its own, and passes it on. Answers `said`.
 fn tell<K: Sink>(sink: &mut K, word: &str, said: bool) -> Result<bool, WriteFailed>
     ensures writes { WritesLine (change K.state sink.old sink.new) (line_of word.now) said result }
     ensures last { OnOk result (K.is_flushed sink.new) }

@@ -35,7 +35,7 @@ NoneBelow guide closed n = (key : ℕ) (known : Known) → IsOpenKey guide close
 abbrev pub IsFloorOfLists : Guide → ClosedModel → Option ℕ → Type 0
 IsFloorOfLists guide closed floor = IsLeastWith (λ f. (key : ℕ) × (known : Known) × IsOpenKey guide closed key known × (known.cost + guide.sum key ≡ f)) floor
 
--- the board stands at this place, is not expanded and known at this cost by this last move, and is what waits next
+-- the board is at this place, is not expanded, is known at this cost by this last move, and is what waits next
 pub record IsFirst (lists : SearchListsModel) (next : Next) : Type 0 where
   pub place : slice_get lists.closed.keys next.place ≡ Some next.key
   pub known : (known : Known) × (map.get lists.closed.known next.key ≡ Some known) × (known.expanded ≡ false) × (known.cost ≡ next.cost) × (known.via ≡ next.via)

@@ -46,9 +46,9 @@ pub(crate) struct Ended {
     pub(crate) solved: Solved,
 }
 
-/// A board and those that the first whole lines among these bytes name, where they are worth solving
-/// side by side: where there are several workers and several boards. Of small boards more are needed,
-/// since each takes less time than a thread.
+/// A board and those that the first whole lines among these bytes name, where they are worth
+/// solving side by side: where there are several workers and several boards. More boards are needed
+/// if they are small, since each takes less time than a thread.
 pub(crate) fn boards_ahead(
     alloc: Global,
     question: &Question<'_>,

@@ -74,13 +74,14 @@ impl<
 
 /// Writes a report for each line of the source that isn't passed over, in order: that of its first
 /// fault, or of an ending that answers its board. A board that isn't in the goal's class is
-/// answered without a search; any other one by A* with the setup's tables, within the setup's limit:
-/// by one worker in the calling thread, or by more in threads of their own, which all end before the
-/// next line is read. The gate is passed after each of their steps.
+/// answered without a search. Any other one is answered by A* with the setup's tables, within the
+/// setup's limit. One worker searches in the calling thread, more in threads of their own, which
+/// all end before the next line is read. The gate is passed after each of their steps.
 ///
-/// Where a setup has several workers and the source holds several lines, their boards are solved side
-/// by side, each by one worker. Their lines are taken, and their reports written, one after the other
-/// as ever. A line that comes alone is solved by one worker if its board is easy, and else by all.
+/// Where a setup has several workers and the source holds several lines, their boards are solved
+/// side by side, each by one worker. Their lines are taken, and their reports written, one after
+/// the other. A line that comes alone is solved by one worker if its board is easy, and else by
+/// all.
 ///
 /// The sink is flushed after each report, so that whoever waits for one has it; nothing is flushed
 /// for a line that is passed over.

@@ -7,7 +7,7 @@ ghost use Rattle.setup_runs.specs.Laws.{ParityIsCertified, CertifiedEndsAreAnswe
 ghost use Rattle.setup_runs.specs.Laws.{StatsAreOfWorlds, StatsAreOfTheSetups};
 ghost use Rattle.setup_runs.specs.Laws.{StatsAreWithinTheLimit};
 
-/// A board of the other class is refused for no want of memory.
+/// A board of the other class is never refused for memory.
 pub fn parity_wants_no_memory()
     ensures { ParityWantsNoMemory }
 {}
@@ -26,7 +26,7 @@ pub fn bounds_are_due()
     ensures nearly { LimitsAreNearlySpent }
 {}
 
-/// What may be certified of a board may be answered too, but for a bound for which memory was
+/// What may be certified of a board may be answered too, except a bound for which memory was
 /// refused.
 #[tactic(auto, using(crate::proofs::SolvingLemmas::parity_certified))]
 pub fn certified_ends_are_answered()

@@ -160,8 +160,7 @@ fn answer_easy<A: TellsBounds, S: Spread, G: Gate>(
     Some(answer)
 }
 
-// The answer of a board by all workers, each of which owns the boards that the setup says by this
-// spread.
+// The answer of a board by all workers. Each owns the boards that the setup says, by this spread.
 fn answer_spread<A: Reading, R: Threads + Wait + Sync, S: Spread + Sync, G: Gate + Sync>(
     rt: &R,
     alloc: Global,

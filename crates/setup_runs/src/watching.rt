@@ -1,4 +1,4 @@
-//! Who watches a run.
+//! What watches a run.
 
 ghost use Rattle.setup_runs.specs.Solving.{AreFiguresOfLine};
 

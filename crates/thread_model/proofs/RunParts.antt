@@ -110,7 +110,7 @@ module _ (w : WorldState) (parts : List PartState) (of : IsOfParts w parts) (i :
       count : length (slice_set w.workers i new.worker) ≡ length after
       count = ap length workers_after ∙ length-map after (λ (x : PartState). x.worker)
 
-  -- a part that has sent the same stood there before
+  -- a part that has sent the same was there before
   module _ (same : new.sent ≡ part.sent) where
     pub sent_before : (j : ℕ) (p : PartState) → slice_get after j ≡ Some p → (q : PartState) × (slice_get parts j ≡ Some q) × (p.sent ≡ q.sent)
     sent_before j p there =

@@ -85,8 +85,8 @@ JoinedPartsAreSound =
     → length book.floors ≡ length parts
     → IsShaped (world_with shared parts book lanes) × IsSound (world_with shared parts book lanes)
 
--- Where all purses are empty and no packet is in a lane, nothing is under way; so where the frontier is not below the limit, and the
--- best cost is that at which the goal is known, the world is quiet.
+-- Where all purses are empty and no packet is in a lane, nothing is under way. So the world is quiet where the frontier is not below the
+-- limit, and the best cost is that at which the goal is known.
 abbrev pub JoinedPartsAreQuiet : Type 0
 JoinedPartsAreQuiet =
     (shared : Shared) (parts : List PartState) (book : BookState) (lanes : List (List Lane))

@@ -18,7 +18,8 @@ use thread_joins::outcome_of_joined;
 use thread_parts::Search;
 use world_ends::Reading;
 
-/// Two new ledgers, which no types stand for yet: that of the credit, and that of what is granted.
+/// Two new ledgers, which have no types of their own yet: that of the credit, and that of what is
+/// granted.
 #[derive(Drop)]
 pub(crate) struct Blanks {
     pub(crate) credit: Blank,

@@ -406,7 +406,7 @@ pub one_first : (role : Role) (worker : WorkerState) (item : Option Item) (rest 
 one_first role worker None rest = refl
 one_first role worker (Some item) rest = refl
 
--- four moves, each of which may offer an item
+-- four moves, where each may offer an item
 four_taken : (role : Role) (worker : WorkerState) (items : Move → Option Item) → fold (with_successor role) worker (filter_map items (U ∷ L ∷ R ∷ D ∷ [])) ≡ taken role (taken role (taken role (taken role worker (items U)) (items L)) (items R)) (items D)
 four_taken role worker items =
     one_first role worker (items U) _

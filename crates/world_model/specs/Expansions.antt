@@ -39,7 +39,7 @@ expansion_by moves role worker b known = fold (with_successor role) (with_closur
 abbrev pub expansion : Role → WorkerState → BoardModel → Known → WorkerState
 expansion role worker b known = expansion_by all_moves role worker b known
 
--- the moves in their order, but for one that is left out, if any is
+-- the moves in their order, without the one that is left out, if any
 abbrev pub moves_but : Option Move → List Move
 moves_but None = all_moves
 moves_but (Some out) = filter (λ m. not (move_eq m out)) all_moves

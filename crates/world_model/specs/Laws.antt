@@ -192,8 +192,8 @@ OneWorkerSpendsTheLimit =
     → w.book.stop ≡ Some Limit
     → expansion_count w ≡ job.limit
 
--- The workers of a credited world expanded at most the limit. Where it stopped for the limit, all of that is granted, and it is spent
--- but for one grant for each worker but one.
+-- The workers of a credited world expanded at most the limit. Where the world stopped for the limit, all of it is granted, and spent except
+-- at most one grant for each worker but one.
 abbrev pub LimitIsSpent : Type 0
 LimitIsSpent =
     (w : WorldState)

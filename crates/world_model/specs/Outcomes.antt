@@ -73,12 +73,12 @@ cause_of None = ForCut
 abbrev pub cause_at : End → Cause
 cause_at end = cause_of end.world.book.stop
 
--- the run stopped early with this bound; beside it stands the plan that is followed back, which costs more, if the goal is known
+-- the run stopped early with this bound, and with the plan that is followed back, which costs more, if the goal is known
 abbrev pub IsStoppedAt : End → ℕ → Option (ℕ × Vec Move Global) → Cause → Type 0
 IsStoppedAt end bound None cause = IsBoundOf end bound × (end.reached ≡ None) × (cause ≡ cause_at end)
 IsStoppedAt end bound (Some best) cause = IsBoundOf end bound × IsFollowedBack end best.0 best.1.items × (best.0 ≢ bound) × (cause ≡ cause_at end)
 
--- the bound stands alone, since memory was refused
+-- the bound is given alone, without a plan, since memory was refused
 abbrev pub IsAloneAt : End → ℕ → Option (ℕ × Vec Move Global) → Cause → Type 0
 IsAloneAt end bound best cause = IsBoundOf end bound × (best ≡ None) × ((refused : OutOfMemory) × (cause ≡ ForMemory (Refused refused)))
 

@@ -82,7 +82,7 @@ AnswersAgree =
     → IsFirm other
     → answer ≡ other
 
--- a step leaves one world, but for an expansion, where several boards may be of least cost plus sum
+-- a step leaves one world, unless it is an expansion, where several boards may be of least cost plus sum
 abbrev pub StepsAreDetermined : Type 0
 StepsAreDetermined =
     (step : Step) (w : WorldState) (answer : Option Refusal) (w' w'' : WorldState)

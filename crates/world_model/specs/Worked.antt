@@ -28,7 +28,7 @@ use Rattle.world_model.specs.Outcomes.{IsGiven}
 abbrev pub by_blank : ℕ → BoardModel → ℕ
 by_blank count b = blank_of b % count
 
--- plans of least moves from one board to another, without a heuristic and without a limit, by so many workers
+-- the job of a plan of fewest moves from one board to another, without a heuristic and without a limit, by `count` workers
 abbrev pub plain_job : BoardModel → BoardModel → ℕ → Job
 plain_job start goal count = record {
   task = record { start = start; goal = goal; rule = unit_rule start.grid; sum = λ _. 0 };
