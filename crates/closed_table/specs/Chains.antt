@@ -68,7 +68,7 @@ chain_at slots bits n i = place bits n (hash_at slots i)
 abbrev pub bucket_at : List Slot → ℕ → ℕ → ℕ → ℕ → Bucket
 bucket_at slots bits n chain i = bucket_of (chain_at slots bits n) (hash_at slots) chain i
 
--- the first slots, as many as this, are in n chains; the links of those are right that are in no bucket
+-- the first `len` slots are in n chains, and the links of those that are in no bucket are right
 pub record IsIndexed (slots : List Slot) (links : List ℕ) (buckets : List Bucket) (len n bits : ℕ) : Type 0 where
   pub small : bits ≤ 32
   pub low : 2 ^ bits / 2 ≤ n

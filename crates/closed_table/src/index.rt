@@ -179,7 +179,7 @@ fn put(bucket: &mut Bucket, place: usize, hash: u32)
 }
 
 // Whether one of a bucket's hashes is this one, also of those where no slot is. All of them are
-// compared: where the last slot is, is guessed wrong often, and mostly none has the hash.
+// compared: the processor often guesses wrong where the last slot is, and mostly none has the hash.
 fn has_hash(bucket: &Bucket, hash: u32) -> bool
     ensures yes { IsTrue result
         → (k : ℕ) × (k < 7) × (slice_index bucket.now.hashes k ≡ hash) }
@@ -261,7 +261,7 @@ pub(crate) fn read_ahead(index: &Index, keys: &[u128]) -> u32
     all
 }
 
-// Puts a slot into a bucket with free entries, if it belongs there. To do either takes no guess of
+// Puts a slot into a bucket with free entries, if it belongs there. Neither case takes a guess of
 // the processor.
 fn put_if(bucket: &mut Bucket, place: usize, hash: u32, belongs: bool)
     requires free { bucket.old.count < 7 }

@@ -1,4 +1,4 @@
-//! The closed list, and all boards that are known beside: what is known of each, by their keys.
+//! The closed list, and all other boards that are known: what is known of each, by their keys.
 //!
 //! - Contracts see a `Closed` as a `ClosedModel`: keys in order of arrival, what is known of each,
 //!   and room. Keys are any `u128`.

@@ -20,7 +20,7 @@ const COST: u32 = 31;
 // How many workers solve it without tables.
 const WORKERS: [usize; 4] = [1, 2, 3, 16];
 
-// So often each count of workers solves it by each spread with these tables.
+// How often each count of workers solves it by each spread with these tables.
 const RUNS: u64 = 5;
 
 // How many runs found the cost: with rows that the checker accepts, and without rows.

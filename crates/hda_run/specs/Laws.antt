@@ -101,7 +101,7 @@ OptimalTruthsAgree =
     → TellsTruth p (Optimal d plan' rows')
     → c ≡ d
 
--- and no bound that tells it is above that cost
+-- and no bound of an outcome that tells the truth is above that cost
 abbrev pub BoundTruthsAreBelow : Type 0
 BoundTruthsAreBelow =
     (p : JobModel) (c bound : ℕ) (plan : Vec Move Global) (rows : Vec (BoardModel × ℕ) Global) (best : Option (ℕ × Vec Move Global)) (cause : Cause) (below : Option (Vec (BoardModel × ℕ) Global))

@@ -60,8 +60,8 @@ pub(crate) fn open_parts<'a, S: Spread>(
     })
 }
 
-// So many workers: this one at a place, and at all others one that knows nothing and has nothing.
-// Where there is one alone, which has to be made for each short search, no other is.
+// As many workers as are asked for: this one at a place, and at all others one that knows nothing
+// and has nothing. For one worker alone, as each short search makes it, no other is made.
 fn workers_with(
     alloc: Global,
     workers: usize,
@@ -88,7 +88,7 @@ fn workers_with(
     Ok(all)
 }
 
-// So many workers that know nothing and have nothing.
+// This number of workers that know nothing and have nothing.
 fn idle_workers(
     alloc: Global,
     workers: usize,

@@ -10,7 +10,7 @@ use Rattle.search_lists.specs.Lists.{SearchListsModel}
 use Rattle.search_lists.specs.declared.lists.Met.{Met}
 use Rattle.search_lists.specs.declared.lists.Next.{Next}
 
--- What a search is led by: the sum of each board, by its key, and the key of the goal, which is not expanded.
+-- What guides a search: the sum of each board, by its key, and the key of the goal, which is not expanded.
 pub record Guide : Type 0 where
   pub sum : ℕ → ℕ
   pub goal : ℕ

@@ -17,8 +17,8 @@ pub fn parity_is_answered()
     ensures { ParityIsAnswered }
 {}
 
-/// A bound is answered for no run that was cut, and for the limit after just as many expansions by
-/// one worker, and after nearly as many by more.
+/// No bound is answered for a run that was cut. One for the limit is answered after just as many
+/// expansions by one worker, and after nearly as many by more.
 #[tactic(auto, using(crate::proofs::LawLemmas::never_cut, crate::proofs::LawLemmas::limits, crate::proofs::LawLemmas::limits_nearly))]
 pub fn bounds_are_due()
     ensures kept { BoundsAreNeverCut }

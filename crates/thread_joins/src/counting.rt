@@ -10,7 +10,7 @@ use std::sync::ledger::Ledger;
 use worker_core::Worker;
 
 /// How many boards the workers have expanded, where each has its ticket. They are at most as many
-/// as were granted, and all of them except at most one grant for each worker.
+/// as were granted, and fewer by at most one grant for each worker.
 pub(crate) fn count_expanded<L: Ledger + Send + Sync, M: Capped + Send + Sync>(
     tickets: Tickets<M>,
     grants: Grants<Shares<L, M>>,

@@ -109,7 +109,7 @@ NothingHeldIsForeign =
 abbrev pub OpeningsAreOfParts : Type 0
 OpeningsAreOfParts = (job : Job) (via : Move) → IsJob job → IsOfParts (opening job via) (opening_parts job via)
 
--- What a step of a world changes is one part, which takes a step of its own, and the parts stay joined.
+-- A step of a world changes one part, which takes a step of its own, and the parts stay joined.
 abbrev pub StepsAreOfParts : Type 0
 StepsAreOfParts =
     (step : Step) (it : Turn WorldState Refusal) (parts : List PartState)

@@ -48,7 +48,7 @@ module _ {S X : Type 0} (gives : WorldState → X → Type 0) (owner_of : S → 
   abbrev pub LimitsAreKept : Type 0
   LimitsAreKept = (p : JobModel) (owners : S) (n : ℕ) (it : X) → IsFoundByWorkers gives owner_of p owners n it → (w : WorldState) × gives w it × (expansion_count w ≤ p.limit)
 
-  -- the world that gives what is found by threads has as many workers as were asked for, and each board is owned in it by whom the owners say
+  -- the world that gives what is found by threads has as many workers as were asked for, and each board has the owner there that the owners name
   abbrev pub ThreadsAreAsAsked : Type 0
   ThreadsAreAsAsked =
       (p : JobModel) (owners : S) (n : ℕ) (it : X)

@@ -7,10 +7,10 @@ use std::time::Duration;
 use std::{array, thread};
 use world_model::WORKER_LIMIT;
 
-// What the word of a worker says that sleeps, or is about to.
+// The word of a worker that sleeps, or is about to.
 const ASLEEP: u64 = 1;
 
-// What it says else.
+// The word of any other worker.
 const AWAKE: u64 = 0;
 
 // For this many turns without work a worker only spins.
@@ -33,7 +33,7 @@ pub struct Signs {
 }
 
 impl Signs {
-    /// Of a run that goes on, and whose workers are awake.
+    /// The signs of a run that goes on, and whose workers are awake.
     pub fn new() -> Self {
         Signs {
             stopped: AtomicU64::new(0),

@@ -19,7 +19,7 @@ items_by moves rule b cost = filter_map (λ m. option_map (λ next. record { boa
 abbrev pub successor_items : WeightsModel → BoardModel → ℕ → List Item
 successor_items rule b cost = items_by all_moves rule b cost
 
--- the worker with one successor more: its own is relaxed, another's goes to the end of the packet for that one
+-- the worker with one successor more: its own is relaxed, another worker's goes to the end of the packet for that worker
 abbrev pub with_successor : Role → WorkerState → Item → WorkerState
 with_successor role worker item =
     if role.owner item.board == role.me

@@ -179,8 +179,8 @@ PlansAreWithinReach =
     ((w : WorldState) (cost : ℕ) (plan : Vec Move Global) (rows : Vec (BoardModel × ℕ) Global) → IsGiven w (Optimal cost plan rows) → IsWithinReach w cost plan)
     × ((w : WorldState) (bound : ℕ) (best : ℕ × Vec Move Global) (cause : Cause) → IsBounded w bound (Some best) cause → IsWithinReach w best.0 best.1)
 
--- In no world that a run reaches is the credit above 2^63 and what is drawn at once. So no purse is the greatest u64 there, and no packet
--- is refused for a full purse.
+-- The credit of each world that a run reaches is at most 2^63 plus what is drawn at once. So no purse is the greatest u64 there, and no
+-- packet is refused for a full purse.
 abbrev pub CreditStaysLow : Type 0
 CreditStaysLow =
     (job : Job) (via : Move) (made : List (Step × Option Refusal)) (w : WorldState)

@@ -82,13 +82,13 @@ IsStoppedAt end bound (Some best) cause = IsBoundOf end bound × IsFollowedBack 
 abbrev pub IsAloneAt : End → ℕ → Option (ℕ × Vec Move Global) → Cause → Type 0
 IsAloneAt end bound best cause = IsBoundOf end bound × (best ≡ None) × ((refused : OutOfMemory) × (cause ≡ ForMemory (Refused refused)))
 
--- memory is asked for: for the plan of a goal that is known, or for rows, which no bound needs that is the start's sum
+-- memory is asked for: for the plan of a goal that is known, or for the rows of a bound above the start's sum
 abbrev pub AsksForMemory : End → ℕ → Type 0
 AsksForMemory end bound = (end.reached ≢ None) ⊎ (end.world.task.sum end.world.task.start < bound)
 
--- Neither the frontier nor the goal is known: no plan. Else the bound is given. Where the plan that is followed back costs just that,
--- it is optimal, and has its rows. Else the bound is given with its rows, and with the plan, if the goal is known. Where the plan or the
--- rows find no memory, it is given alone.
+-- Where the frontier is empty and the goal is unknown, there is no plan. Else the bound is given. Where the plan that is followed back
+-- costs just that, it is optimal, and has its rows. Else the bound is given with its rows, and with the plan, if the goal is known. Where
+-- the plan or the rows find no memory, it is given alone.
 abbrev pub IsGivenAt : End → Outcome → Type 0
 IsGivenAt end (Optimal cost plan rows) = IsBoundOf end cost × IsFollowedBack end cost plan.items × AreRowsFor end.world cost rows.items
 IsGivenAt end (Unsolvable why) = (floor end ≡ None) × (why ≡ Exhausted)

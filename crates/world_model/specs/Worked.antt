@@ -116,7 +116,7 @@ RefusalsAreGiven =
     ∷ [])
     (Bounded 0 None ForCut (Some rows))
 
--- who has spent the purse, still has something to do, holds a packet or was granted enough is refused, and the goal is announced once
+-- a worker that has spent its purse, still has something to do, holds a packet or was granted enough is refused, and the goal is announced once
 abbrev pub RefusalsOnTheWayAreGiven : Type 0
 RefusalsOnTheWayAreGiven =
     (w : WorldState)

@@ -77,7 +77,7 @@ MemoryIsGiven =
     → Gives one_move (first_half ++ second_half) (Bounded 1 None (ForMemory (Refused refused)) None)
     × Gives one_move first_half (Bounded 1 None (ForMemory (Refused refused)) None)
 
--- of the same start, a run that was halted because a thread could not be started
+-- from the same start, a run that was halted because a thread could not be started
 abbrev pub StartIsGiven : Type 0
 StartIsGiven = (rows : Vec (BoardModel × ℕ) Global) → rows.items ≡ [] → Gives one_move (ok (Halt 0 Start) ∷ []) (Bounded 0 None ForStart (Some rows))
 

@@ -137,7 +137,7 @@ FullPacketsRefuse =
 abbrev pub three_ways : Job
 three_ways = plain_job (two_by_three (1 ∷ 0 ∷ 2 ∷ 3 ∷ 4 ∷ 5 ∷ [])) (two_by_three (5 ∷ 4 ∷ 3 ∷ 2 ∷ 1 ∷ 0 ∷ [])) 2
 
--- the worker that owns it, with so much allowance, knowledge and items for worker 0
+-- the worker that owns it, with this allowance, these expansions, what is known, and the packet for worker 0
 abbrev pub three_by : ℕ → ℕ → Knowledge → Packet → WorkerState
 three_by allowance expansions known packet = record (with_purse 1) { known = known; unsent = packet ∷ [] ∷ []; allowance = allowance; expansions = expansions }
 

@@ -101,7 +101,7 @@ pub fn other_ends()
     ensures start { StartIsGiven }
 {}
 
-/// An opening world is not kept, whatever stops it but memory.
+/// An opening world is not kept: before it stops, for a thread or for the limit.
 #[tactic(auto, using(crate::proofs::WorkedOutcomeLemmas::not_kept))]
 pub fn unkept()
     ensures { OpeningsAreNotKept }
