@@ -162,7 +162,7 @@ sum_before : (me to : ℕ) (m : Move) (item : Option Offer) (others : List (Move
 sum_before me to m None others = omega arith
 sum_before me to m (Some x) others = sum_by-cons (entry_goes me to) (m, x) others
 
--- of the entries as many go as of all four
+-- as many go of the entries as of all four
 pub sum_entries : (me to : ℕ) (offers : Offers) → sum_by (entry_goes me to) (entries_of offers) ≡ go me to offers
 sum_entries me to offers =
     let up = sum_before me to U offers.up (before L offers.left (before R offers.right (before D offers.down []))) in

@@ -41,7 +41,7 @@ use Rattle.thread_model.proofs.WorkerKept.{expanding_kept, settling_kept, worker
 
 -- ---- a step of a world that is of joined parts leads to one that is
 
--- of each lane what came and what still lies in it is what was sent
+-- what came by each lane and what still lies in it is what was sent
 abbrev pub AreTied : List PartState → List (List Lane) → Type 0
 AreTied parts lanes =
     (from to : ℕ) (sender receiver : PartState) (sent received left : Lane)

@@ -397,7 +397,7 @@ module _ (task : Task) (owner_among : ℕ → BoardModel → ℕ) (states : List
   cause_is : (stop : Option Stop) (cause : Cause) → w.book.stop ≡ stop → cause ≡ cause_of stop → cause ≡ cause_at at
   cause_is stop cause stopped is = is ∙ ap cause_of (sym stopped)
 
-  -- neither the frontier nor the goal is known
+  -- the frontier is empty and the goal is unknown
   pub no_plan : lesser lowest (cost_in known) ≡ None → EndsWhole w (Unsolvable Exhausted)
   no_plan none = given (outcome.Unsolvable Exhausted) (none, refl)
 

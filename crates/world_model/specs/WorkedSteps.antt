@@ -169,8 +169,8 @@ LowerGoalsAreAnnounced =
     × AnnounceStep starter (refused (beside goal_known (book_best 4 None)) NothingToAnnounce)
     × AnnounceStep starter (refused (beside goal_known (book_best 3 (Some Quiet))) Stopped)
 
--- A limit of 300 is granted as 256 and then 44, and the copy is renewed. Of the refusals a stop comes first, then that nothing is below the
--- best cost of the book, whatever the copy, then an allowance, and last that all is granted.
+-- A limit of 300 is granted as 256 and then 44, and the copy is renewed. A stop comes first, then that nothing is below the best cost of
+-- the book, whatever the copy, then an allowance, and last that all is granted.
 abbrev pub GrantsAreWhole : Type 0
 GrantsAreWhole =
     GrantStep starter (accepted (beside (expands 0 0) (book_best 9 None)) (beside (record (expands GREATEST_GRANT 0) { best = Some 9 }) (record (book_best 9 None) { granted = GREATEST_GRANT })))
