@@ -348,8 +348,8 @@ fn bits_for_more(bits: u32, chains: usize) -> u32
     bits
 }
 
-// Reads ahead, for every eighth chain that is divided, what `relink` will read first of the lists of
-// this one and the seven next, so that the reads of memory overlap. The answer means nothing.
+// Reads ahead, for every eighth chain that is divided, what `relink` will read first of the lists
+// of this one and the seven next, so that the reads of memory overlap. The answer means nothing.
 fn read_lists(index: &Index) -> u64
     requires small { index.now.bits ≤ 32 }
     requires few { index.now.len ≤ 2 ^ 33 }
@@ -397,8 +397,8 @@ fn add_chain(index: &mut Index)
     index.buckets.set(chains, halves.go);
 }
 
-// Makes the first chains, where there is no slot. No bucket is written: each is that of a chain with
-// no slot since its page was made.
+// Makes the first chains, where there is no slot. No bucket is written: each is that of a chain
+// with no slot since its page was made.
 fn make_first_chains(index: &mut Index)
     requires none { index.old.len ≡ 0 }
     requires room { 127 ≤ length index.old.buckets }

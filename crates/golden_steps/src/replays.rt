@@ -2,7 +2,7 @@
 //!
 //! The input has paragraphs with an empty line between two. One that begins with `#` is a comment.
 //! Each other one is a replay: words that say its setup, and then the lines of its input. In these
-//! a `\` and two hexadecimal digits are a byte, and a `\` at the end takes the line feed away.
+//! a `\` and two hexadecimal digits mean a byte, and a `\` at the end takes the line feed away.
 //!
 //! For each replay its words are printed, and each line of the input behind `< ` when its first
 //! byte is read. What the replay writes is printed behind `> ` when it flushes, and what it never

@@ -183,8 +183,8 @@ fn show_lists<S: Spread, G: Gate>(world: &World<'_, S>, gate: &G, known: usize)
     }
 }
 
-// A cost that no plan undercuts: the least f of what waits. None where the goal is known, to which a
-// plan may cost less than that, or where no board is open.
+// A cost that no plan undercuts: the least f of what waits. None where the goal is known, to which
+// a plan may cost less than that, or where no board is open.
 fn bound_of<S: Spread>(world: &World<'_, S>) -> Option<u32>
     requires { IsLone (world_of S.owner_of world.now) }
     ensures { IsBoundSoFar S.owner_of world.now result }

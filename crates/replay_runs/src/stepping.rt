@@ -137,8 +137,8 @@ fn step_in(kind: LineKind, bytes: &[u8]) -> Option<Step>
     read_step(bytes)
 }
 
-// Takes the step that a line says, if it says one, and answers the line. Returns whether each line up
-// to it said one.
+// Takes the step that a line says, if it says one, and answers the line. Returns whether each line
+// up to it said one.
 fn answer_step<K: Sink, R: Run>(
     alloc: Global,
     sink: &mut K,

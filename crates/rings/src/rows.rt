@@ -21,7 +21,8 @@ pub struct Rings<C: Counting> {
     pub ins: Vec<Vec<Receiver<C>>>,
 }
 
-/// One worker's ends of the rings of a run: `outs[j]` of that to worker j, `ins[j]` of that from it.
+/// One worker's ends of the rings of a run: `outs[j]` of that to worker j, `ins[j]` of that from
+/// it.
 #[derive(Drop)]
 pub struct Ends<C: Counting> {
     pub outs: Vec<Sender<C>>,

@@ -56,7 +56,8 @@ IsFoundByOne gives end setup start answer = (limit : ℕ) × IsFoundWithin gives
 abbrev pub IsFound : {X : Type 0} → (WorldState → X → Type 0) → (X → Ending) → SetupModel → BoardModel → X → Type 0
 IsFound gives end setup start answer = IsFoundByWorkers gives owner_by (problem_of setup start) setup.spread setup.workers answer ⊎ IsFoundByOne gives end setup start answer
 
--- What a search by the setup's workers may answer for a board: its parity just where the board isn't in the goal's class, and else what a run finds. Memory may be refused before the first step.
+-- What a search by the setup's workers may answer for a board: its parity just where the board isn't in the goal's class, and else what a
+-- run finds. Memory may be refused before the first step.
 pub record IsSearched {X : Type 0} (gives : WorldState → X → Type 0) (answers : Task → X → Type 0) (end : X → Ending) (parity : X) (setup : SetupModel) (start : BoardModel) (found : Result X OutOfMemory) : Type 0 where
   pub at_parity : (found ≡ Ok parity) ↔ (¬ SameClass start setup.goal)
   pub run : SameClass start setup.goal → IfOk found (IsFound gives end setup start)

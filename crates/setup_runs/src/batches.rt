@@ -18,8 +18,8 @@ use std::alloc::Global;
 use std::sync::Wait;
 use std::thread::Threads;
 
-// A setup, the closures by which its workers answer boards, and who watches them: threads start under
-// the bounds of the function that makes the closures, which no trait's method has.
+// A setup, the closures by which its workers answer boards, and who watches them: threads start
+// under the bounds of the function that makes the closures, which no trait's method has.
 #[derive(Drop)]
 struct Guided<'a, F, P, W> {
     setup: &'a Setup,
@@ -109,8 +109,8 @@ pub fn run_batch<R: Threads + Wait + Sync, S: Source, K: Sink, G: Gate + Sync>(
     run_watched(rt, alloc, source, sink, setup, &Unwatched { gate })
 }
 
-/// Runs a batch as `run_batch` does, under a watch. It is handed the figures of each line whose board
-/// is answered, in the order of the lines, before its report is written.
+/// Runs a batch as `run_batch` does, under a watch. It is handed the figures of each line whose
+/// board is answered, in the order of the lines, before its report is written.
 pub fn run_watched<R: Threads + Wait + Sync, S: Source, K: Sink, W: Watch + Sync>(
     rt: &R,
     alloc: Global,

@@ -41,8 +41,8 @@ pub fn stats_are_of_worlds()
     ensures setups { StatsAreOfTheSetups }
 {}
 
-/// The stats of a line count no more expansions than the setup allows. What one worker expanded before
-/// all shared a board is not among them.
+/// The stats of a line count no more expansions than the setup allows. What one worker expanded
+/// before all shared a board is not among them.
 #[tactic(auto, using(crate::proofs::LawLemmas::stats_within_limits))]
 pub fn stats_are_within_the_limit()
     ensures { StatsAreWithinTheLimit }

@@ -105,7 +105,8 @@ enum Run {
     Upgrade,
     // `run_replay` over a board of 2 by 2, with one worker, Korf's goal and unit costs.
     Replay,
-    // `list_boards` of walks of 12 moves over 2 by 2, which come round to the goal. It reads nothing.
+    // `list_boards` of walks of 12 moves over 2 by 2, which come round to the goal. It reads
+    // nothing.
     Boards,
 }
 

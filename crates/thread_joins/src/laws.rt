@@ -32,8 +32,8 @@ pub fn kept_worlds_alone_give<A: Reading>()
     ensures { KeptWorldsAloneGive A.gives }
 {}
 
-/// What a joined world that is kept gives answers its job, in each reading. No list of steps stopped
-/// a joined world.
+/// What a joined world that is kept gives answers its job, in each reading. No list of steps
+/// stopped a joined world.
 pub fn joined_worlds_answer<A: Reading>()
     ensures answers { JoinedWorldsAnswer A.gives A.answers }
     ensures no_list { NoListStopsThreads }
