@@ -143,8 +143,8 @@ impl Board {
         }
     }
 
-    /// The board of this shape with this key, which is known to be a board's: as `from_key`, without
-    /// a test.
+    /// The board of this shape with this key, which is known to be a board's: as `from_key`,
+    /// without a test.
     pub fn of_key(shape: Shape, key: u128) -> Self
         requires { (b : BoardModel) × HasKey shape key b }
         ensures { HasKey shape key result }

@@ -86,8 +86,9 @@ impl Weights {
         Weights { shape, weights }
     }
 
-    /// The weights of tiles 1, 2, .. in order, or the first fault: E13 where their count is not that
-    /// of the tiles, else E14 at the first 0. All ones are unit cost, and 1, 2, .. are face cost.
+    /// The weights of tiles 1, 2, .. in order, or the first fault: E13 where their count is not
+    /// that of the tiles, else E14 at the first 0. All ones are unit cost, and 1, 2, .. are face
+    /// cost.
     pub fn list(shape: Shape, listed: &[u8]) -> Result<Self, WeightsFault>
         ensures accepted { IsOk result ↔ AreWeights (listed_rule shape listed.now) }
         ensures value { IfOk result (λ rule. rule ≡ listed_rule shape listed.now) }

@@ -19,8 +19,8 @@ use std::alloc::Global;
 
 /// The table of the value of each view of the group for this goal. A value is the smaller of
 /// `NO_VALUE` and the least cost of a view plan to the goal's view (Korf, Felner 2002). Values are
-/// kept by rank where the group has more than 2^25 slots; else by slot, as bytes if all of them fit.
-/// The error is `OutOfMemory`.
+/// kept by rank where the group has more than 2^25 slots; else by slot, as bytes if all of them
+/// fit. The error is `OutOfMemory`.
 pub fn build(
     alloc: Global,
     group: &Group,

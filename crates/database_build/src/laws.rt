@@ -10,8 +10,8 @@ ghost use Rattle.database_build.specs.Laws.{FormsAreDetermined, WordsAreNeeded};
 use crate::entries::MOST_SLOTS;
 use crate::folding::{MOST_PLACES, PLACES_A_VALUE};
 
-/// A group has at most as many sparse places as six tiles on a board of 4 by 4, or its folded tables
-/// are not kept by them.
+/// A group has at most as many sparse places as six tiles on a board of 4 by 4, or its folded
+/// tables are not kept by them.
 pub fn most_places_are_those_of_six_tiles()
     ensures { MOST_PLACES ≡ 16 ^ 6 }
 {}
@@ -50,8 +50,8 @@ pub fn folded_values_are_least()
     ensures one { FoldedValuesAreDetermined }
 {}
 
-/// Values are kept best in one form: by rank, as bytes, or as words. Folded values are kept as words
-/// only where some value needs one.
+/// Values are kept best in one form: by rank, as bytes, or as words. Folded values are kept as
+/// words only where some value needs one.
 #[tactic(auto, using(crate::proofs::EntryLemmas::one_form, crate::proofs::EntryLemmas::small_places))]
 pub fn forms_are_determined()
     ensures best { FormsAreDetermined }

@@ -59,7 +59,8 @@ impl Reading {
         ensures value { result.now ≡ self.now }
         ensures board { IsBoard self.now }
     {
-        // The last clause needs that this is a board. Each `KeyedBoard` is one, and `shape` says so.
+        // The last clause needs that this is a board. Each `KeyedBoard` is one, and `shape` says
+        // so.
         let _ = self.board.shape();
         &self.board
     }
@@ -74,8 +75,8 @@ impl Reading {
     }
 }
 
-// Adds the values that tables have for a board, each found by a slot of digits of the board's search
-// key.
+// Adds the values that tables have for a board, each found by a slot of digits of the board's
+// search key.
 pub(crate) fn sum_by_digits(tables: &[Table], board: &KeyedBoard) -> u32
     requires few { length tables.now ≤ 24 }
     requires read { All (λ table. IsConsecutiveOn table.selection board.now) tables.now }
@@ -98,8 +99,8 @@ fn value_by_digits(table: &Table, board: &KeyedBoard) -> u16
     table.slot_value(slot_by_digits(table, board))
 }
 
-// The values that a table has for a board before a move of one of its tiles and after it, each found
-// by a slot of digits of the board's search key.
+// The values that a table has for a board before a move of one of its tiles and after it, each
+// found by a slot of digits of the board's search key.
 pub(crate) fn values_by_digits(table: &Table, board: &KeyedBoard, tile: u8) -> (u16, u16)
     requires { IsConsecutiveMove table.now.selection tile board.now }
     ensures values { (b' : BoardModel) → IsMoveOf tile board.now b'
@@ -118,8 +119,8 @@ pub(crate) fn values_by_digits(table: &Table, board: &KeyedBoard, tile: u8) -> (
     (table.slot_value(before), table.slot_value(after))
 }
 
-// The slot of what a table's group sees of a board: the blank's digit of the board's search key, and
-// above it the digits of the group's tiles.
+// The slot of what a table's group sees of a board: the blank's digit of the board's search key,
+// and above it the digits of the group's tiles.
 fn slot_by_digits(table: &Table, board: &KeyedBoard) -> usize
     requires { IsConsecutiveOn table.now.selection board.now }
     ensures view { IsView table.now.selection.grid table.now.selection.tiles

@@ -4,9 +4,9 @@
 //! the cells that the blank reaches are one region (`Regions`), and the views with the blank there
 //! are one node of a `Graph`. Edges lead from node to node where a tile of the group moves.
 //!
-//! A `Frame` is for all groups of as many tiles, and the graph of each is made from it. `Graph::new`
-//! gives the graph of the group's views and view moves (`IsGraphOf`), and each edge leads to a node
-//! (`IsSoundGraph`): the searches of `pattern_search` need no more.
+//! A `Frame` is for all groups of as many tiles, and the graph of each is made from it.
+//! `Graph::new` gives the graph of the group's views and view moves (`IsGraphOf`), and each edge
+//! leads to a node (`IsSoundGraph`): the searches of `pattern_search` need no more.
 //!
 //! - A region depends only on the set of the tiles' cells, and a set has its place among those of
 //!   its size (`Choices`). How the tiles lie on the set is an order (`Orders`): for each tile how

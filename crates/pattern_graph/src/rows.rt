@@ -96,8 +96,8 @@ fn add_row(
     Ok(())
 }
 
-/// The least values of a group's placements, one for each by place. `least` has one for each, by its
-/// set of cells and then by its order. The error is `OutOfMemory`.
+/// The least values of a group's placements, one for each by place. `least` has one for each, by
+/// its set of cells and then by its order. The error is `OutOfMemory`.
 pub fn rank_least(alloc: Global, group: &Group, least: &[u16]) -> Result<Vec<u16>, OutOfMemory>
     requires { IsOnePerPlacement group.now least.now }
     ensures size { IfOk result (λ values. length values.items ≡ folded_size_of group.now) }

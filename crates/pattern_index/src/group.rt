@@ -218,8 +218,8 @@ impl Group {
     }
 
     /// The sparse place of what it sees of a board, by the cell of each of the board's numbers
-    /// (`cells_of`): as `sparse_place` of the view, without making one. It is made in less time than
-    /// a rank.
+    /// (`cells_of`): as `sparse_place` of the view, without making one. It is made in less time
+    /// than a rank.
     pub fn sparse_place_at(&self, cells: &[u8; 25]) -> usize
         requires { IsView self.now.grid self.now.tiles (view_at self.now.tiles cells.now) }
         ensures { result ≡ sparse_in self.now.grid (view_at self.now.tiles cells.now) }
@@ -227,8 +227,8 @@ impl Group {
         sparse_tiles(self.shape().cells(), self.tiles(), cells)
     }
 
-    /// The sparse place of a view: the number that has the cells of its tiles as digits, that of the
-    /// first tile as the lowest.
+    /// The sparse place of a view: the number that has the cells of its tiles as digits, that of
+    /// the first tile as the lowest.
     pub fn sparse_place(&self, view: &View) -> usize
         requires { IsView self.now.grid self.now.tiles view.now }
         ensures { result ≡ sparse_in self.now.grid view.now }
@@ -244,16 +244,16 @@ impl Group {
         stride_of(self.shape().cells(), self.tiles(), tile)
     }
 
-    /// How many numbers have a digit for the blank and for each tile: 16^(k + 1) for k tiles on up to
-    /// 16 cells, and N^(k + 1) on N cells more. All slots are below it.
+    /// How many numbers have a digit for the blank and for each tile: 16^(k + 1) for k tiles on up
+    /// to 16 cells, and N^(k + 1) on N cells more. All slots are below it.
     pub fn slot_count(&self) -> usize
         ensures { result ≡ slot_count_of self.now }
     {
         count_numbers(digit_base(self.shape()), self.tiles().len() + 1)
     }
 
-    /// The slot of a view: the number that has the blank's cell as its lowest digit, and those of the
-    /// tiles as the next ones.
+    /// The slot of a view: the number that has the blank's cell as its lowest digit, and those of
+    /// the tiles as the next ones.
     pub fn slot(&self, view: &View) -> usize
         requires { IsView self.now.grid self.now.tiles view.now }
         ensures value { result ≡ slot_in self.now.grid view.now }
@@ -262,8 +262,8 @@ impl Group {
         sparse_place(digit_base(self.shape()), view.cells())
     }
 
-    /// The slot of what it sees of a board, by the cell of each of the board's numbers (`cells_of`):
-    /// as `slot` of the view, without making one.
+    /// The slot of what it sees of a board, by the cell of each of the board's numbers
+    /// (`cells_of`): as `slot` of the view, without making one.
     pub fn slot_at(&self, cells: &[u8; 25]) -> usize
         requires { IsView self.now.grid self.now.tiles (view_at self.now.tiles cells.now) }
         ensures value { result ≡ slot_in self.now.grid (view_at self.now.tiles cells.now) }

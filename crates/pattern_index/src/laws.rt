@@ -46,8 +46,8 @@ pub fn views_are_ranked()
     ensures fill { ViewRanksFill }
 {}
 
-/// The place of a view is below the group's folded size, and views share one exactly where they show
-/// the tiles on the same cells.
+/// The place of a view is below the group's folded size, and views share one exactly where they
+/// show the tiles on the same cells.
 #[tactic(auto, using(crate::proofs::PlaceLemmas::place_below, crate::proofs::PlaceLemmas::same_cells))]
 pub fn places_are_ranked()
     ensures below { PlacesAreBelow }
@@ -62,8 +62,8 @@ pub fn sparse_places_are_numbers()
     ensures moved { SparsePlacesMove }
 {}
 
-/// The slot of a view has its cells as digits, it is below the count of slots, and no two views share
-/// one.
+/// The slot of a view has its cells as digits, it is below the count of slots, and no two views
+/// share one.
 #[tactic(auto, using(crate::proofs::SparseLemmas::slot_below, crate::proofs::SparseLemmas::slots_differ))]
 pub fn views_have_slots()
     ensures digits { SlotsAreDigits }

@@ -7,8 +7,8 @@ ghost use Rattle.pattern_index.specs.Views.{exchanged};
 
 use board::Shape;
 
-/// The base in which cells are digits of a slot: 16 where they are no more, so that a digit has four
-/// bits, else the count of cells.
+/// The base in which cells are digits of a slot: 16 where they are no more, so that a digit has
+/// four bits, else the count of cells.
 pub fn digit_base(shape: Shape) -> usize
     ensures value { result ≡ digit_base shape }
     ensures high { result ≤ 25 }

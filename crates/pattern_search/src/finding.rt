@@ -25,8 +25,9 @@ pub struct Found {
     pub values: Vec<u16>,
 }
 
-/// The values of the nodes of a group's views for a goal, in a frame that fits the group: the smaller
-/// of `NO_VALUE` and the least cost of a view plan to the goal's view. The error is `OutOfMemory`.
+/// The values of the nodes of a group's views for a goal, in a frame that fits the group: the
+/// smaller of `NO_VALUE` and the least cost of a view plan to the goal's view. The error is
+/// `OutOfMemory`.
 pub fn find_values(
     alloc: Global,
     frame: Frame,

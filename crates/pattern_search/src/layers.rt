@@ -1,5 +1,5 @@
-//! The search for the values of nodes where each tile costs the same: layer by layer, since all nodes
-//! that are found in a layer have one value.
+//! The search for the values of nodes where each tile costs the same: layer by layer, since all
+//! nodes that are found in a layer have one value.
 
 ghost use Rattle.std.specs.Prelude.{ℕ, suc, ◌≡◌, ◌+◌, ◌*◌, ◌/◌, ◌<◌, ◌≤◌, length, slice_index};
 ghost use Rattle.std.specs.Prelude.{IfOk};

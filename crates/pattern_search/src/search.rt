@@ -1,5 +1,5 @@
-//! The search for the values of nodes by buckets of cost: backwards from the goal's node, since each
-//! view move can be taken back at the same cost.
+//! The search for the values of nodes by buckets of cost: backwards from the goal's node, since
+//! each view move can be taken back at the same cost.
 
 ghost use Rattle.std.specs.Prelude.{◌≡◌, ◌<◌, ◌≤◌, ◌^◌, length, slice_index, IfOk, OnOk};
 ghost use Rattle.std.specs.Prelude.{MatchOption};
@@ -65,8 +65,8 @@ impl Search {
         Ok(())
     }
 
-    // Lowers the node to which an edge leads from one of this order, if its value is more. Most edges
-    // lower nothing, so the value is compared before the call.
+    // Lowers the node to which an edge leads from one of this order, if its value is more. Most
+    // edges lower nothing, so the value is compared before the call.
     fn pass(&mut self, edge: &Edge, order: usize, cost: usize) -> Result<(), OutOfMemory>
         requires fits { IsFit self.old }
         requires order { order < factorial self.old.graph.regions.count }

@@ -22,7 +22,7 @@ use Rattle.batch_runs.specs.FirstLines.{IsPassedOver, FindsFirst}
 use Rattle.replay_runs.specs.Replies.{Reply, replies_text, are_fine, replay_status_of}
 use Rattle.replay_runs.specs.Stepping.{IsReplied, IsReportOf, output_of}
 
--- the shape of the boards, the job that a board starts, and when memory is wanting before its first step
+-- the shape of the boards, the job that a board starts, and when memory is refused before its first step
 pub record Jobs : Type 1 where
   pub grid : ShapeModel
   pub job : BoardModel → Job
@@ -34,7 +34,7 @@ IsGuidedJob job = IsJob job × IsLowerBound job.task.rule job.task.sum job.task.
 
 -- ---- the board line
 
--- the line has a fault with this code; or it names a board, and memory was wanting
+-- the line has a fault with this code; or it names a board, and memory was refused
 abbrev pub IsLineRefusedBy : Jobs → List ℕ → List ℕ → Type 0
 IsLineRefusedBy jobs line code =
     HasFault jobs.grid line code ⊎ ((id : List ℕ) × (board : BoardModel) × Names jobs.grid line id board × jobs.lacks board × (code ≡ codes "V3"))
@@ -110,7 +110,7 @@ BeginsReplay jobs source sink =
     ⊎ ((lines : List (List ℕ)) × (id : List ℕ) × (replies : List Reply) × (outcome : Outcome) × AreAll source.before.left lines × IsEnd jobs lines id replies outcome
     × PutsBeginning sink (output_of replies id outcome))
 
--- all was written but the report, for which memory was wanting
+-- all was written but the report, for which memory was refused
 abbrev pub LacksReport : Jobs → Change SourceState → Change SinkState → Type 0
 LacksReport jobs source sink =
     ((output : List ℕ) × RefusesFirst jobs source output × Puts sink [])
@@ -126,7 +126,7 @@ Replays jobs source sink (Err (Memory lacking)) = LacksReport jobs source sink �
 
 -- ---- a refusal
 
--- the report of line n with this code was written; or writing it failed, or memory was wanting for it
+-- the report of line n with this code was written; or writing it failed, or memory was refused for it
 abbrev pub ReportsRefusal : Change SinkState → List ℕ → ℕ → Result ℕ LinesFault → Type 0
 ReportsRefusal sink code n (Ok status) = WritesAll sink (report_text (refused_data code n)) × (status ≡ 1)
 ReportsRefusal sink code n (Err Read) = ⊥

@@ -39,7 +39,7 @@ RepliesToLines source lines world sink (Err Write) =
     × PutsBeginning sink (replies_text replies) × IsReadable source × HasFailed sink.after
 RepliesToLines source lines world sink (Err (Memory lacking)) = ⊥
 
--- Then the report was written, of an outcome that the world gives; or memory was wanting for it. A fault before it is that of a line.
+-- Then the report was written, of an outcome that the world gives; or memory was refused for it. A fault before it is that of a line.
 abbrev pub Finishes : Change SourceState → List (List ℕ) → WorldState → List ℕ → Change SinkState → Result ℕ LinesFault → Type 0
 Finishes source lines w id sink (Ok status) =
     (later : List (List ℕ)) × (replies : List Reply) × (end : WorldState) × (outcome : Outcome) × AreAll source.before.left (lines ++ later)

@@ -24,7 +24,7 @@ use world_model::laws::runs_keep_sound;
 
 /// What opens the runs of boards' jobs.
 pub trait Opener<R: Run> {
-    // The shape of the boards, the job of each, and when memory is wanting for it.
+    // The shape of the boards, the job of each, and when memory is refused for it.
     ghost jobs: { Self → Jobs };
 
     /// Opens the run of a board's job. The error is that memory was refused.

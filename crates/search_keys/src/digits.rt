@@ -1,5 +1,5 @@
-//! Digits of four and of five bits: put together, read, two exchanged, and the first that is a given
-//! one.
+//! Digits of four and of five bits: put together, read, two exchanged, and the first that is a
+//! given one.
 
 ghost use Rattle.std.specs.Prelude.{ℕ, ◌≡◌, ◌+◌, ◌*◌, ◌/◌, ◌%◌, ◌^◌, ◌<◌, ◌≤◌, All, length};
 ghost use Rattle.std.specs.Prelude.{slice_index};
@@ -120,8 +120,8 @@ pub(crate) fn long_digit_at(digit: u128, place: usize) -> u128
 /// A number of four bits a digit after two of its digits change places: `lowest`, which is its
 /// lowest digit, and `other`, which is its digit at `place`.
 ///
-/// The number is a search key of a board of at most 16 cells, or the slot of a view of such a board.
-/// In both the blank's cell is the lowest digit.
+/// The number is a search key of a board of at most 16 cells, or the slot of a view of such a
+/// board. In both the blank's cell is the lowest digit.
 pub fn short_exchanged(key: u64, place: usize, lowest: u64, other: u64) -> u64
     requires place { place < 16 }
     requires stand { other * 16 ^ place + lowest ≤ key }

@@ -120,7 +120,7 @@ is_no_error : {X : Type 0} (refused : OutOfMemory) (parity : X) → error_of ref
 is_no_error refused parity e = absurd (cc)
 
 module _ {X : Type 0} (answers : Task → X → Type 0) (is_of_run : X → Type 0) (parity : X) (setup : SetupModel) (start : BoardModel) where
-  -- the board is answered so, or memory is wanting
+  -- the board is answered so, or memory is refused
   abbrev pub Gives : Result X OutOfMemory → Type 0
   Gives (Ok answer) = AnswersBoard answers is_of_run parity setup start (Some answer)
   Gives (Err refused) = AnswersBoard answers is_of_run parity setup start None

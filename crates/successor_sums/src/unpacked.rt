@@ -28,8 +28,8 @@ pub struct Successor {
     pub sum: u32,
 }
 
-/// A board taken apart: its shape, its key, and the cell of each number. A tile on a cell is a digit
-/// of the key.
+/// A board taken apart: its shape, its key, and the cell of each number. A tile on a cell is a
+/// digit of the key.
 #[derive(Debug, Drop)]
 pub struct UnpackedBoard {
     shape: Shape,

@@ -380,7 +380,7 @@ same_elsewhere me h old new offer other others apart =
     (λ (foreign : offer.owner ≢ me). ap (λ (lists : SearchListsModel). places_at lists.waiting h) (other foreign))
     (cases_eq offer.owner me)
 
--- where places were wanting at an entry, they were wanting before
+-- where places were missing at an entry, they were wanting before
 pub still_wanting : (me : ℕ) (old new : SearchListsModel) (offer : Offer) → HasMoreRoom old new → ¬ HasPlaces me new offer → ¬ HasPlaces me old offer
 still_wanting me old new offer more wanting here = wanting (λ own. let places = here own in let no_less = more.places offer.f in omega (arith, places, no_less))
 

@@ -191,7 +191,7 @@ fn close_next<C: Counting>(lists: &mut SearchLists, allowance: &mut Allowance<C>
 }
 
 // Makes places for as many boards more as there are moves, and for as many at the f of each that
-// this worker owns: several may have the same. It is refused only where some of these are wanting,
+// this worker owns: several may have the same. It is refused only where some of these are missing,
 // and where none is, nothing changes. At any other f no place is made.
 fn make_places(
     lists: &mut SearchLists,

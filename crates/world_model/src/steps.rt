@@ -8,7 +8,7 @@ use outcomes::Want;
 pub enum HaltCause {
     /// The limit on expansions is reached.
     Limit,
-    /// Memory is wanting.
+    /// Memory was refused.
     Memory(Want),
     /// A thread could not be started.
     Start,
@@ -21,7 +21,7 @@ pub enum Stop {
     Quiet,
     /// It was halted: the limit on expansions is reached.
     Limit,
-    /// It was halted: memory is wanting.
+    /// It was halted: memory was refused.
     Memory(Want),
     /// It was halted: a thread could not be started.
     Start,

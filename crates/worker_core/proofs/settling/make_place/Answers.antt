@@ -12,7 +12,7 @@ returns-clause-made c =
     (λ (place : 1 ≤ places_at c.reserve_places.new.self.waiting c.args.f). (omega (arith, room, same), omega (arith, place)))
     c.reserve_places.ensures.ok
 
--- places that are wanting once there is room for the board were wanting before
+-- places that are missing once there is room for the board were missing before
 pub returns-clause-refused : goal.returns-clause-refused
 returns-clause-refused c =
     let no_less = c.reserve_boards.ensures.same.places c.args.f in

@@ -22,10 +22,8 @@ is_key shape is = record {
   packed = key_is;
 }
 
--- src/keyed.rt:74:5
 pub invariant_of-result : goal.invariant_of-result
 invariant_of-result c = keyed_as _ _ (is_key c.unwrap.result (search rules))
 
--- src/keyed.rt:74:5
 pub returns : goal.returns
 returns c = key_read _ _ (is_key c.unwrap.result (search rules))
