@@ -481,8 +481,8 @@ folded_potentials rule goal tables folded is made potentials = record {
 }
 
 -- a bound whose tables were folded is of the same groups
-pub folded_groups : FoldedBoundsKeepGroups
-folded_groups tables folded is = is.split
+pub keep_groups : FoldedBoundsKeepGroups
+keep_groups tables folded is = is.split
 
 -- a bound whose tables were folded says no more
 pub folded_no_more : FoldedBoundsSayNoMore

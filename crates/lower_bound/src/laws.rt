@@ -29,7 +29,7 @@ pub fn folded_sums_are_lower_bounds()
 
 /// A bound whose tables were folded is of the same groups, and says no more of a board than it said
 /// before.
-#[tactic(auto, using(crate::proofs::PartLemmas::folded_no_more, crate::proofs::PartLemmas::folded_groups))]
+#[tactic(auto, using(crate::proofs::PartLemmas::folded_no_more, crate::proofs::PartLemmas::keep_groups))]
 pub fn folded_bounds_say_no_more()
     ensures values { FoldedBoundsSayNoMore }
     ensures groups { FoldedBoundsKeepGroups }

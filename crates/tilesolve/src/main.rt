@@ -127,7 +127,7 @@ impl<R: Eprint + AllocGlobal + Clock> Watch for Progress<'_, R> {
     }
 }
 
-// The words after the program's name, or how the program ends where they are no texts or find no
+// The arguments after the program's name, or how the program ends where they are no texts or find no
 // memory.
 fn read_words(rt: &(impl Env + AllocGlobal)) -> Result<Vec<String>, Ending> {
     let words = match env::args(rt) {
