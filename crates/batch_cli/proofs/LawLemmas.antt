@@ -106,9 +106,9 @@ accepted_inputs source sink input known truth =
 pub default_setups : DefaultSetupsAreKorfs
 default_setups setup is = (ap (λ (b : BoardModel). b.tiles) is.goal, is.rule, is.groups, is.limit, is.workers)
 
--- ---- What words ask for, and that what the program writes is true.
+-- ---- What arguments ask for, and that what the program writes is true.
 
--- ---- what words ask for is fit, and without words it is the default
+-- ---- what arguments ask for is fit, and without arguments it is the default
 
 -- groups that are said are of the shape that is said
 groups_sides : (grid : ShapeModel) (text : Option Text) (split : PartitionModel) → AreGroupsSaid grid text split → split.grid ≡ grid
@@ -151,7 +151,7 @@ fit_run (Some p) (Boards l) asked = asked.1.small
 fit_run (Some p) (Help text) asked = tt
 fit_run (Some p) (Version text) asked = tt
 
--- what words ask for is fit
+-- what arguments ask for is fit
 pub fit_asked : (words : List Text) (request : Request) → WordsAsk words request → IsRequestFit request
 fit_asked [] (Solve o) defaults = fit_defaults o defaults
 fit_asked [] (Certify o) never = absurd never
@@ -488,7 +488,7 @@ module _ (source : Change SourceState) (sink : Change SinkState) (ending : Endin
       let list = put_list l (from_to sink.before ended.between) ended.run.0 status is zero ended.run.1 in
       (list.0, list.1, Appends-kept sink.before.contents ended.between.contents sink.after.contents (lines_text 1 list.0) list.2 (behind_none ended.ran last ending ended.flush))
 
-  -- ---- what words ask for
+  -- ---- what arguments ask for
 
   request_true : (request : Request) → EndsRequest request source sink ending → IsTrueOf request status source sink ⊎ (OutOfMemory × (status ≡ 4) × IsUnused source sink)
   request_true (Solve o) (inl (setup, is, run)) = let all = solved source sink ending status told setup run in inl (setup, is, all.0, all.1)
@@ -508,7 +508,7 @@ module _ (source : Change SourceState) (sink : Change SinkState) (ending : Endin
   words_true words (inl (request, asks, ends)) = inl (request, asks, request_true request ends)
   words_true words (inr (refusal, fails, unused, is)) = inr (refusal, fails, told ∙ ap status_of is, unused)
 
-  -- ---- no words
+  -- ---- no arguments
 
   -- a batch of a default setup was run, or memory was refused for its groups or tables
   abbrev BatchOrNone : Type 0

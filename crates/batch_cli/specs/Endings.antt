@@ -8,7 +8,8 @@ use Rattle.batch_cli.specs.declared.faults.BatchFault.TheVariants.{Read, Write, 
 use Rattle.batch_cli.specs.declared.endings.Ending.{Ending}
 use Rattle.batch_cli.specs.declared.endings.Ending.TheVariants.{NoTexts, Refused, NoMemory, Ran, Answered, Shown, Faulted}
 
--- 0 where each line is optimal or unsolvable, and for a text; 1 where some line is bounded or refused; what a run over one line, one certificate or one replay answers; 2 for the words; 3 for streams that failed; 4 where memory ran out
+-- 0: each line is optimal or unsolvable, or a text was written, or boards were listed. 1: some line is bounded or refused. 2: the arguments are
+-- no texts, or ask for nothing. 3: a stream failed. 4: memory ran out. A run over one line, one certificate or one replay answers its own status.
 abbrev pub status_of : Ending → ℕ
 status_of NoTexts = 2
 status_of (Refused refusal) = refusal_status refusal
@@ -49,7 +50,7 @@ pub record Tells (errors : Change SinkState) (ending : Ending) (status : ℕ) : 
   pub begun : PutsBeginning errors (message_of ending)
   pub whole : errors.after.has_failed ≡ false → Puts errors (message_of ending)
 
--- the ending comes before anything is read or written: the words are at fault, or there is no memory
+-- the ending comes before anything is read or written: the arguments are no texts, or ask for nothing, or there is no memory
 abbrev pub HasNotBegun : Ending → Type 0
 HasNotBegun NoTexts = ⊤
 HasNotBegun (Refused refusal) = ⊤

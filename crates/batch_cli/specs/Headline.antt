@@ -27,12 +27,14 @@ use Rattle.batch_cli.specs.declared.endings.Ending.{Ending}
 use Rattle.batch_cli.specs.Endings.{Tells, HasNotBegun}
 use Rattle.batch_cli.specs.Programs.{IsUnused, EndsBy}
 
--- For some default setup a beginning was written of an output that tells the truth of the lines that were read, and with the status 0 or 1 all of one that tells it of all lines; with 0 none of them is bounded or refused.
+-- For some default setup a beginning was written of an output that tells the truth of the first lines of the input. With the status 0 or 1 an
+-- output was written that tells the truth of all lines. With 0 none of them is bounded or refused.
 abbrev pub IsTrue : ℕ → Change SourceState → Change SinkState → Type 0
 IsTrue status source sink =
     (setup : SetupModel) × IsDefaultSetup setup × BeginsTruth (rules_of setup) source sink × (status < 2 → WritesTruth (rules_of setup) source sink status)
 
--- the input is a certificate, no plan from its start to its goal costs less than it states, and where it states a plan, that leads there at its cost, which is the least
+-- the input is a certificate, no plan from its start to its goal costs less than it states, and where it states a plan, that leads there at
+-- its cost, which is the least
 abbrev pub StatesTruth : List ℕ → Type 0
 StatesTruth input =
     (c : CertificateModel)
@@ -58,7 +60,8 @@ DrawsTruly style status sink input = (status ≡ 0) ⊎ (status ≡ 5) → Write
 abbrev pub WritesReplay : Jobs → Change SourceState → Change SinkState → ℕ → Type 0
 WritesReplay jobs source sink status = WritesNothing source sink status ⊎ WritesRefusal jobs source sink status ⊎ WritesPlay jobs source sink status
 
--- What is written for what words ask for is true. Of boards it is so as of those without words, for a setup that the options say; of a certificate, a verdict, a drawing, an upgrade, a replay, a list of boards and a text where the run ends well.
+-- What is written for a request is true. Reports of boards are true as in a run without arguments, for a setup that the options say. A
+-- certificate, a verdict, a drawing, an upgrade, a replay, a list of boards and a text are true where the run ends well.
 abbrev pub IsTrueOf : Request → ℕ → Change SourceState → Change SinkState → Type 0
 IsTrueOf (Solve o) status source sink =
     (setup : SetupModel) × IsSetupOf o setup × BeginsTruth (rules_of setup) source sink × (status < 2 → WritesTruth (rules_of setup) source sink status)
@@ -71,13 +74,15 @@ IsTrueOf (Boards l) status source sink = status ≡ 0 → (boards : List BoardMo
 IsTrueOf (Help text) status source sink = status ≡ 0 → Puts sink (string_bytes text)
 IsTrueOf (Version text) status source sink = status ≡ 0 → Puts sink (string_bytes text)
 
--- what words ask for is answered truly, or memory was refused for its tables; or the words ask for nothing, as the status says. Where nothing is answered, nothing is read or written.
+-- What arguments ask for is answered truly, or memory was refused for its tables. Or they ask for nothing, as the status says. Where nothing is
+-- answered, nothing is read or written.
 abbrev pub IsTrueBy : List Text → ℕ → Change SourceState → Change SinkState → Type 0
 IsTrueBy words status source sink =
     ((request : Request) × WordsAsk words request × (IsTrueOf request status source sink ⊎ (OutOfMemory × (status ≡ 4) × IsUnused source sink)))
     ⊎ ((refusal : NoRequest) × WordsFail words refusal × (status ≡ refusal_status refusal) × IsUnused source sink)
 
--- A run of the program with these words: what it did to its streams, and its exit status. `Flushed` says that the sink is flushed at the end or has failed, `Untouched` that neither the source nor the sink was used.
+-- A run of the program with these arguments: what it did to its streams, and its exit status. `Flushed` says that the sink is flushed at the end
+-- or has failed, `Untouched` that neither the source nor the sink was used.
 pub record RunsProgram (words : List Text) (source : Change SourceState) (sink errors : Change SinkState) (status : ℕ) (Flushed Untouched : Type 0) : Type 0 where
   pub ended : (ending : Ending) × Tells errors ending status × EndsBy words source sink ending × (HasNotBegun ending → Untouched)
   pub truth : IsTrueBy words status source sink

@@ -34,7 +34,8 @@ MessagesAreBegun =
     → Tells errors ending status
     → (sent unsent : List ℕ) × (message_of ending ≡ sent ++ unsent) × (errors.after.contents ≡ Some (held ++ sent))
 
--- where the input is known and the output was empty, what the sink holds after the status 0 or 1 tells the truth of all of the input's lines, for some default setup; and after 0 none of them is bounded or refused
+-- Where the input is known and the output was empty, what the sink holds after the status 0 or 1 tells the truth of all of the input's lines,
+-- for some default setup. After 0 none of them is bounded or refused.
 abbrev pub OutputsTellTheTruth : Type 0
 OutputsTellTheTruth =
     (source : Change SourceState) (sink : Change SinkState) (status : ℕ) (input : List ℕ)
@@ -67,7 +68,8 @@ CertificatesAnswerTheFirst =
     × (lines more : List (List ℕ)) × (output : List ℕ) × (lines_of input ≡ lines ++ more) × (sink.after.contents ≡ Some output)
     × AnswersFirst setup.tables.split (certifying_rules_of setup) lines output
 
--- where `check` of a known input ends with the status 0, the input is a certificate: no plan costs less than it states, and a plan that it states leads to the goal at its cost
+-- where `check` of a known input ends with the status 0, the input is a certificate: no plan costs less than it states, and a plan that it
+-- states leads to the goal at its cost
 abbrev pub AcceptedInputsAreTrue : Type 0
 AcceptedInputsAreTrue =
     (source : Change SourceState) (sink : Change SinkState) (input : List ℕ)

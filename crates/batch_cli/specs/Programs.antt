@@ -1,4 +1,4 @@
--- What the program does for words, and how it ends.
+-- What the program does for arguments, and how it ends.
 use Rattle.std.specs.Prelude.{ℕ, ◌≡◌, ◌⊎◌, List, Result, Ok, Err, ⊤, Bool, false, string_bytes}
 use Rattle.byte_streams.specs.Streams.{SourceState, SinkState, Change, from_to}
 use Rattle.byte_streams.specs.Sink.{Writes, Flushes}
@@ -106,9 +106,9 @@ LacksTables source sink ending = OutOfMemory × IsUnused source sink × (ending 
 abbrev pub EndsSetup : Options → (SetupModel → Change SinkState → Ending → Type 0) → Change SourceState → Change SinkState → Ending → Type 0
 EndsSetup o runs source sink ending = ((setup : SetupModel) × IsSetupOf o setup × EndsRun (runs setup) sink ending) ⊎ LacksTables source sink ending
 
--- ---- words
+-- ---- arguments
 
--- how the program ends for what words ask for
+-- how the program ends for what arguments ask for
 abbrev pub EndsRequest : Request → Change SourceState → Change SinkState → Ending → Type 0
 EndsRequest (Solve o) source sink ending = EndsSetup o (SolvesLines source) source sink ending
 EndsRequest (Certify o) source sink ending = EndsSetup o (CertifiesOne source) source sink ending
@@ -120,7 +120,7 @@ EndsRequest (Boards l) source sink ending = (source.after ≡ source.before) × 
 EndsRequest (Help text) source sink ending = (source.after ≡ source.before) × EndsRun (ShowsText (string_bytes text)) sink ending
 EndsRequest (Version text) source sink ending = (source.after ≡ source.before) × EndsRun (ShowsText (string_bytes text)) sink ending
 
--- How the program ends: as what the words ask for ends; or the words ask for nothing, and nothing is read or written.
+-- How the program ends: as what the arguments ask for ends; or they ask for nothing, and nothing is read or written.
 abbrev pub EndsBy : List Text → Change SourceState → Change SinkState → Ending → Type 0
 EndsBy words source sink ending =
     ((request : Request) × WordsAsk words request × EndsRequest request source sink ending)
@@ -176,6 +176,6 @@ abbrev pub prints_stats : Command → Bool
 prints_stats (command.Solve setup progress stats) = stats
 prints_stats _ = false
 
--- progress and figures are printed just where they are asked for
+-- progress and figures are printed exactly where they are asked for
 abbrev pub PrintsAsAsked : Request → Command → Type 0
 PrintsAsAsked request command = (prints_progress command ≡ asks_progress request) × (prints_stats command ≡ asks_stats request)

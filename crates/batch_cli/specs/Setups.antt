@@ -32,12 +32,13 @@ IsRequestFit (Boards l) = MayBeListed l.goal.grid l.choice
 IsRequestFit (Help text) = ⊤
 IsRequestFit (Version text) = ⊤
 
--- for each of the groups there is a table with the value of each view; or where that is asked for one that was folded from it
+-- for each of the groups there is a table with the value of each view; or, where that is asked for, one that was folded from it
 abbrev pub AreTablesFor : Bool → PartitionModel → WeightsModel → BoardModel → BoundModel → Type 0
 AreTablesFor true split rule goal tables = AreBuiltFolded split rule goal tables
 AreTablesFor false split rule goal tables = AreBuilt split rule goal tables
 
--- the goal, the costs, the limit, the workers and their spread are those of the options, and the tables are those of the options' groups, folded where the options say so
+-- the goal, the costs, the limit, the workers and their spread are those of the options, and the tables are those of the options' groups,
+-- folded where the options say so
 pub record IsSetupOf (o : Options) (setup : SetupModel) : Type 0 where
   pub goal : setup.goal ≡ o.goal
   pub rule : setup.rule ≡ o.costs
@@ -50,7 +51,8 @@ pub record IsSetupOf (o : Options) (setup : SetupModel) : Type 0 where
 abbrev pub small_grid : ShapeModel
 small_grid = record { rows = 3; cols = 3 }
 
--- Korf's goal, unit cost, and two tables with the value of each view, neither of them folded: of the tiles 1 to 4, and of 5 to 8; without a limit, for one worker
+-- Korf's goal, unit cost, and two tables with the value of each view, of the tiles 1 to 4 and of 5 to 8. Neither is folded. There is no limit,
+-- and one worker.
 pub record IsDefaultSetup (setup : SetupModel) : Type 0 where
   pub goal : setup.goal ≡ goal_of small_grid
   pub rule : setup.rule ≡ unit_rule small_grid

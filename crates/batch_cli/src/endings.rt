@@ -1,4 +1,4 @@
-//! How the program ends, and what it tells of that.
+//! How the program ends, and what it writes of that to standard error.
 
 ghost use Rattle.std.specs.Prelude.{◌≡◌};
 ghost use Rattle.byte_streams.specs.Streams.{change};
@@ -12,15 +12,16 @@ use command_line::NoRequest;
 /// How the program ends.
 #[derive(Debug, Drop)]
 pub enum Ending {
-    /// It was given words that are no texts.
+    /// It was given arguments that are no texts.
     NoTexts,
-    /// It was given words that ask for nothing.
+    /// It was given arguments that ask for nothing.
     Refused(NoRequest),
-    /// There was no memory for the words, the streams' buffers or the tables.
+    /// There was no memory for the arguments, the streams' buffers or the tables.
     NoMemory,
     /// All lines were answered or refused.
     Ran(Summary),
-    /// A certificate was written, judged, drawn or upgraded, or a replay answered, with this status.
+    /// A certificate was written, judged, drawn or upgraded, or a replay answered, and this is the
+    /// status.
     Answered(u8),
     /// A text of help was written, or boards were listed.
     Shown,
@@ -29,9 +30,16 @@ pub enum Ending {
 }
 
 impl Ending {
-    /// The exit status: 0 where each line is optimal or unsolvable, 1 where some line is bounded or
-    /// refused, 2 for words, 3 for a stream that failed, 4 where memory ran out, 5 for a certificate
-    /// that is refused.
+    /// The exit status:
+    ///
+    /// - 0: each line is optimal or unsolvable, or a text was written, or boards were listed.
+    /// - 1: some line is bounded or refused.
+    /// - 2: the arguments are no texts, or ask for nothing.
+    /// - 3: a stream failed.
+    /// - 4: memory ran out.
+    ///
+    /// A run over one line, one certificate or one replay answers its own status, and 5 where a
+    /// certificate is refused.
     pub fn status(&self) -> u8
         ensures { result ≡ status_of self.now }
     {

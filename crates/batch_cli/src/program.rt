@@ -13,16 +13,17 @@ use std::alloc::Global;
 use std::sync::Wait;
 use std::thread::Threads;
 
-/// Runs the program over any streams, and answers its exit status. The words are those after the
-/// program's name.
+/// Runs the program over any streams, and answers its exit status. `words` are the arguments after
+/// the program's name.
 ///
-/// What the words ask for is done, and the sink is flushed. Boards are solved or steps replayed
+/// What the arguments ask for is done, and the sink is flushed. Boards are solved or steps replayed
 /// with tables that are built once, a certificate is written, checked, drawn or upgraded, boards
-/// are listed, or a text of help is written. No words at all mean `solve --rows 3 --cols 3`: 3 by 3
+/// are listed, or a text of help is written. No arguments mean `solve --rows 3 --cols 3`: 3 by 3
 /// boards at unit cost with Korf's goal, and the tables of the groups `1,2,3,4/5,6,7,8`.
 ///
-/// What is written tells the truth: so say `IsTrueBy`, and `IsTrue` where there are no words. Where
-/// the words ask for nothing, or there is no memory for the tables, nothing is read or written.
+/// What is written tells the truth: `IsTrueBy` says so, and `IsTrue` where there are no arguments.
+/// Where the arguments ask for nothing, or there is no memory for the tables, nothing is read or
+/// written.
 pub fn run_program<R: Threads + Wait + Sync, S: Source, K: Sink, E: Sink>(
     rt: &R,
     alloc: Global,
@@ -39,8 +40,9 @@ pub fn run_program<R: Threads + Wait + Sync, S: Source, K: Sink, E: Sink>(
     run_with_progress(rt, alloc, words, source, sink, errors, &Unkept)
 }
 
-/// Runs the program as `run_program` does, under a watch: it is passed after each step of the search
-/// where the words ask for progress, and takes the figures of lines where they ask for these.
+/// Runs the program as `run_program` does, under a watch. The watch is passed after each step of
+/// the search where the arguments ask for progress. It takes the figures of lines where they ask
+/// for these.
 pub fn run_with_progress<R: Threads + Wait + Sync, S: Source, K: Sink, E: Sink, W: Watch + Sync>(
     rt: &R,
     alloc: Global,

@@ -1,4 +1,4 @@
-//! Progress and figures, where the words ask for them.
+//! Progress and figures, where the arguments ask for them.
 
 use batch_runs::Stats;
 use hda_run::{Gate, Kind, World};
@@ -59,7 +59,7 @@ impl<W: Watch> Watch for WhereAsked<'_, W> {
     }
 }
 
-/// A watch that nobody keeps.
+/// A watch that does nothing.
 #[derive(Clone, Copy)]
 pub(crate) struct Unkept;
 

@@ -27,7 +27,7 @@ use std::alloc::Global;
 use std::sync::Wait;
 use std::thread::Threads;
 
-/// What commands run with: threads, memory, and who watches searches.
+/// What commands run with: threads, memory, and the watch of searches.
 #[derive(Clone, Copy)]
 pub(crate) struct Runner<'a, R, W> {
     pub rt: &'a R,
@@ -36,8 +36,8 @@ pub(crate) struct Runner<'a, R, W> {
 }
 
 impl<'a, R: Threads + Wait + Sync, W: Watch + Sync> Runner<'a, R, W> {
-    /// Does what the words ask for, and returns how the program ends. Each command is followed by a
-    /// flush; without one, nothing is read or written.
+    /// Does what the arguments ask for, and returns how the program ends. A flush follows each
+    /// command; without one, nothing is read or written.
     pub(crate) fn end_program<S: Source, K: Sink>(
         &self,
         words: &[String],

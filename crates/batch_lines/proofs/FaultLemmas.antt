@@ -1,4 +1,4 @@
--- The numbers that words say have the first fault of the words.
+-- The first fault of the numbers that words say is that of these words.
 use Rattle.std.proofs.Common.{◌≡◌, ◌≢◌, ℕ, suc, ◌-◌, ◌<◌, ◌≤◌, min, Bool, true, false, List, [], ◌∷◌, ◌++◌, length, get_or, take, refl, sym, ap, ◌∙◌, arith, length-append, append_assoc, if◌then◌else◌, subst, ⊎_elim, length-take}
 use Rattle.std.specs.Prelude.{◌&&◌, map, nat_lt, ◌↔◌, All, IsErrOf, IsUtf8, Ok, Err, slice_get, Some}
 use Rattle.std.specs.List.{list_all}
@@ -23,7 +23,7 @@ use Rattle.batch_lines.specs.declared.words.EntryFault.TheVariants.{NoText, NoBo
 
 -- ---- The numbers that words say, word by word.
 
--- the numbers of the words so far, and the words that are left
+-- `numbers` are those of the words of `text` before `rest`, and they are 26 at most
 pub record AreRead (text rest numbers : List ℕ) : Type 0 where
   pub few : length numbers ≤ 26
   pub read : map tile_number (take 26 (words_of text)) ≡ numbers ++ map tile_number (take (26 - length numbers) (words_of rest))
@@ -97,7 +97,7 @@ number_before words place k d word before at =
     let within : k < length (map tile_number words) = omega (arith, slice_get_within words k word at, length-map words tile_number) in
     get_or-take place (map tile_number words) k d before ∙ get_or_default (map tile_number words) k d 0 within ∙ number_at words k word at
 
--- where no number before a place is at fault, no word is
+-- where no number before a place is faulty, no word before it is
 first_word : (grid : ShapeModel) (words : List (List ℕ)) (place : ℕ) → cell_count grid ≤ 25 → IsFirstTilesPlace grid (map tile_number words) place → IsFirstWord grid words place
 first_word grid words place few first =
     let size = length-map words tile_number in
@@ -116,7 +116,7 @@ first_word grid words place few first =
           first.different j k 0 below (omega (arith, taken, first.within)) (first_is ∙ sym second_is);
     }
 
--- a word before a place, where none of these is at fault
+-- a word before a place, where no word before it is faulty
 word_before : (grid : ShapeModel) (words : List (List ℕ)) (place k : ℕ) → cell_count grid ≤ 25 → IsFirstWord grid words place → k < place → (word : List ℕ) × (slice_get words k ≡ Some word) × (tile_number word < cell_count grid)
 word_before grid words place k few first before =
     let at = slice_get-get_or words k [] (omega (arith, first.within)) in
@@ -180,7 +180,7 @@ repeated grid words place few = (
       (first, omega (arith, is, fault.7), (fault.2, omega (arith, fault.8, first.within, length-take place (map tile_number words)), earlier ∙ sym is))),
 )
 
--- the first fault of the numbers is that of the words
+-- the numbers and their words have the same first fault
 same_fault : (grid : ShapeModel) (words : List (List ℕ)) → cell_count grid ≤ 25 → (fault : TilesFault) → IsFirstTilesFault grid (map tile_number words) fault ↔ IsFirstWordFault grid words fault
 same_fault grid words few WrongCount = (λ wrong e. wrong (length-map words tile_number ∙ e), λ wrong e. wrong (sym (length-map words tile_number) ∙ e))
 same_fault grid words few (TileOutOfRange place) = out_of_range grid words place few
@@ -192,7 +192,7 @@ surplus grid words few more WrongCount = (λ wrong e. absurd (omega arith), λ w
 surplus grid words few more (TileOutOfRange place) = (λ fault. absurd (let e = fault.0.one_each in omega (arith, length-map (take 26 words) tile_number, length-take 26 words)), λ fault. absurd (let e = fault.1.one_each in omega arith))
 surplus grid words few more (TileRepeated place) = (λ fault. absurd (let e = fault.0.one_each in omega (arith, length-map (take 26 words) tile_number, length-take 26 words)), λ fault. absurd (let e = fault.4.one_each in omega arith))
 
--- the first fault of the numbers that are read is that of the words
+-- the numbers that are read and all words have the same first fault
 pub read_fault : (grid : ShapeModel) (words : List (List ℕ)) (numbers : List ℕ) → cell_count grid ≤ 25 → numbers ≡ map tile_number (take 26 words) → (fault : TilesFault) → IsFirstTilesFault grid numbers fault ↔ IsFirstWordFault grid words fault
 read_fault grid words numbers few read fault =
     subst (λ (ns : List ℕ). IsFirstTilesFault grid ns fault ↔ IsFirstWordFault grid words fault) (sym read)
@@ -205,7 +205,7 @@ spell_each : (words : List (List ℕ)) → All (λ n. n < 255) (map tile_number 
 spell_each [] small = tt
 spell_each (word ∷ words) small = (Spells-from_number word (All-head (λ n. n < 255) (tile_number word) (map tile_number words) small), spell_each words (All-tail (λ n. n < 255) (tile_number word) (map tile_number words) small))
 
--- the words spell the tiles of a board
+-- words whose numbers are the tiles of a board spell these tiles
 pub spelled : (grid : ShapeModel) (words : List (List ℕ)) (numbers : List ℕ) → cell_count grid ≤ 25 → numbers ≡ map tile_number (take 26 words) → IsBoard (record { grid = grid; tiles = numbers }) → SpellEach words numbers
 spelled grid words numbers few read board =
     let all : length words ≤ 26 = omega (arith, board.one_each, ap length read, length-map (take 26 words) tile_number, length-take 26 words) in

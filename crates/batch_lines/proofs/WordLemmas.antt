@@ -112,7 +112,7 @@ first_is bs start size cut =
     let n : start + size - start ≡ size = omega arith in
     ap (λ (k : ℕ). take k (drop start bs)) n ∙ (parts_are bs start size cut).0
 
--- the words that stand behind it
+-- the other words
 pub others_are : (bs : List ℕ) (start size : ℕ) → IsCut bs start size → words_of (drop (start + size) bs) ≡ tile_words (words_of bs)
 others_are bs start size cut = ap words_of (sym (drop-drop size start bs)) ∙ (parts_are bs start size cut).1
 
@@ -164,7 +164,7 @@ some_first ((b ∷ bs) ∷ words) e = let kept = kept_first (b ∷ bs) words (om
 pub words_none : (bs : List ℕ) → id_of (words_of bs) ≡ [] → words_of bs ≡ []
 words_none bs e = some_first (slice_split is_blank bs) e
 
--- words of which the first is known
+-- words whose first word is known
 pub first_and_others : (words : List (List ℕ)) (word : List ℕ) (others : List (List ℕ)) → word ≡ id_of words → 0 < length word → others ≡ tile_words words → words ≡ word ∷ others
 first_and_others [] word others e some f = absurd (omega (arith, ap length e))
 first_and_others (first ∷ rest) word others e some f = cc

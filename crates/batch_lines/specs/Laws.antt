@@ -12,7 +12,7 @@ abbrev pub EndsTakeNothing : Type 0
 EndsTakeNothing =
     (source : Change SourceState) (reader : Change LineReaderModel) → ReadsLine source reader (Ok None) → (reader.after.lines ≡ reader.before.lines) × (reader.after.taken ≡ reader.before.taken)
 
--- the line that is answered has the number of the lines that were taken, it among them, and its line stands first in what was left
+-- the line that is answered is the first line of what was left, and its number is the count of the lines taken, itself among them
 abbrev pub LinesAreNumbered : Type 0
 LinesAreNumbered =
     (source : Change SourceState) (reader : Change LineReaderModel) (line : Line) (input : List ℕ)

@@ -12,7 +12,7 @@ use Rattle.batch_lines.specs.declared.lines.Scan.{Scan}
 use Rattle.batch_lines.specs.declared.lines.LineKind.TheVariants.{Within}
 use Rattle.batch_lines.specs.declared.lines.TheConstants.{INPUT_LIMIT}
 
--- where a reader stands: how many lines and how many bytes it has taken, and what it keeps of the last line
+-- the state of a reader: how many lines and how many bytes it has taken, and what it keeps of the last line
 pub record LineReaderModel : Type 0 where
   pub lines : ℕ
   pub taken : ℕ
@@ -52,7 +52,7 @@ CountsKnown (Some input) (Some rest) before after = before + length input ≡ af
 abbrev pub CountsTaken : Change SourceState → Change ℕ → Type 0
 CountsTaken source taken = CountsKnown source.before.left source.after.left taken.before taken.after
 
--- no line is taken whole: of the bytes that were taken within the limit none is a line feed
+-- no line is taken whole: no byte that was taken within the limit is a line feed
 abbrev pub TakesNoLine : Change SourceState → ℕ → Type 0
 TakesNoLine source room = (seen : List ℕ) × Takes source seen × HasNoFeed (take room seen)
 

@@ -25,7 +25,7 @@ passes Return = true
 passes Comment = true
 passes Words = false
 
--- of a line its first bytes are kept, how it begins, and whether it has more bytes
+-- the first bytes of a line are kept, how it begins, and whether it has more bytes
 pub record IsScanned (line kept : List ℕ) (scan : Scan) : Type 0 where
   pub first : kept ≡ take KEPT line
   pub begins : scan.start ≡ start_of Blanks line

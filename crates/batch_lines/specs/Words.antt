@@ -12,7 +12,7 @@ use Rattle.batch_lines.specs.Lines.{is_blank}
 use Rattle.batch_lines.specs.declared.words.EntryFault.{EntryFault}
 use Rattle.batch_lines.specs.declared.words.EntryFault.TheVariants.{NoText, NoBoard}
 
--- what stands between runs of spaces and tabs
+-- the texts between runs of spaces and tabs
 abbrev pub words_of : List ℕ → List (List ℕ)
 words_of line = filter (λ word. nat_lt 0 (length word)) (slice_split is_blank line)
 

@@ -64,7 +64,7 @@ pub fn read_entry(shape: Shape, line: &[u8]) -> Result<Entry<'_>, EntryFault>
 // seen.
 const TILES_READ: usize = 26;
 
-// The numbers that the words of a text say.
+// The numbers that the first words of a text say.
 fn tile_numbers(text: &str) -> ArrayVec<u8, 26>
     ensures { result.items ≡ map tile_number (take 26 (words_of text.now)) }
 {
@@ -98,8 +98,8 @@ pub fn tile_number(word: &[u8]) -> u8
     number as u8
 }
 
-/// The first word of a text, empty where there is none, and what stands behind it. Words are
-/// separated by spaces and tabs.
+/// The first word of a text, empty where there is none, and the text behind it. Spaces and tabs
+/// separate words.
 pub fn cut_word(text: &str) -> (&str, &str)
     ensures word { result.0.now ≡ id_of (words_of text.now) }
     ensures rest { words_of result.1.now ≡ tile_words (words_of text.now) }
@@ -110,7 +110,7 @@ pub fn cut_word(text: &str) -> (&str, &str)
     (&text[start..end], &text[end..])
 }
 
-// How many blanks stand before the first byte that is none.
+// How many blanks come before the first byte that is none.
 fn count_blanks(bytes: &[u8]) -> usize
     ensures value { result ≡ position_or_len (λ byte. not (is_blank byte)) bytes.now }
     ensures within { result ≤ length bytes.now }
@@ -121,7 +121,7 @@ fn count_blanks(bytes: &[u8]) -> usize
         .unwrap_or(bytes.len())
 }
 
-// How many bytes stand before the first blank.
+// How many bytes come before the first blank.
 fn word_length(bytes: &[u8]) -> usize
     ensures { result ≡ position_or_len is_blank bytes.now }
 {

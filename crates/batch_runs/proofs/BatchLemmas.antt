@@ -89,7 +89,7 @@ AreFirst-read None now lines read = tt
 AreFirst-read (Some bytes) None lines read = absurd read
 AreFirst-read (Some bytes) (Some left) lines read = (lines_of left, read)
 
--- whoever takes a line takes its bytes
+-- taking a line takes its bytes
 takes_some : (old new : Option (List ℕ)) (line : List ℕ) → TakesKnown old new line → (seen : List ℕ) × Consumes old new seen
 takes_some None new line taken = ([], tt)
 takes_some (Some input) None line taken = absurd taken

@@ -51,7 +51,7 @@ HasRead-end a b c r s lines before read = ended a.left b.left lines before.read 
 pub HasRead-first : (a b : SourceState) (r : LineReaderModel) (lines : List (List ℕ)) → HasRead (from_to a b) r lines → AreFirst a.left lines
 HasRead-first a b r lines before = AreFirst-read a.left b.left lines before.read
 
--- an input is too long of which more was counted than the limit
+-- an input is too long where more bytes of it were counted than the limit
 too_long : (a b c : Option (List ℕ)) (x y : ℕ) → CountsKnown a b 0 x → CountsKnown b c x y → INPUT_LIMIT < y → IsTooLong a
 too_long None b c x y p q past = tt
 too_long (Some input) None c x y p q past = absurd p
@@ -78,7 +78,7 @@ TakesSome-end a b c before none = (before.0, Consumes-kept a.left b.left c.left 
 TakesSome-lost : (a b c : SourceState) (room : ℕ) → TakesSome (from_to a b) → TakesNoLine (from_to b c) room → TakesSome (from_to a c)
 TakesSome-lost a b c room before (seen, taken, none) = (before.0 ++ seen, Consumes-trans a.left b.left c.left before.0 seen before.1 taken)
 
--- so many lines were read, and all are passed over
+-- these lines were read, and all are passed over
 pub record IsSearching (source : Change SourceState) (reader : LineReaderModel) : Type 0 where
   pub lines : List (List ℕ)
   pub read : HasRead source reader lines

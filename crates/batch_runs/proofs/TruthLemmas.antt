@@ -1,4 +1,4 @@
--- What is read in a line of the output is what was told of the line that it answers.
+-- What is read in a line of the output is what was reported of the line that it answers.
 use Rattle.std.proofs.Common.{◌≡◌, ◌≢◌, ℕ, zero, suc, ◌<◌, List, [], ◌∷◌, Option, None, Some, length, refl, sym, ap, ◌∙◌, subst, inl, inr, arith, slice_get, ◌+◌, ◌^◌, ◌≤◌, ◌++◌, cond, append_assoc, codes, get_or, map, not, ◌==◌, ◌&&◌}
 use Rattle.std.specs.List.{All, AllPairs, AllByRecursion}
 use Rattle.std.proofs.lemmas.Bool.{true≢false, ne_eqb, eqb-true}
@@ -108,7 +108,7 @@ pub no_fault : (grid : ShapeModel) (line id code : List ℕ) (b : BoardModel) �
 no_fault grid line id code b (within, entry) (inl (long, is)) = not_both (sym long ∙ within)
 no_fault grid line id code b (within, entry) (inr (within', (fault, first, is))) = no_entry_fault grid (without_return line) id b entry fault first
 
--- ---- what is told of a line is read in the output: lines
+-- ---- what is reported of a line is read in the output: lines
 
 feed_ends : (line rest : List ℕ) → AllByRecursion (λ b. b ≢ 10) line → lines_of (line ++ 10 ∷ rest) ≡ line ∷ lines_of rest
 feed_ends [] rest none = refl
@@ -131,9 +131,9 @@ kind_asks line e =
     let is : line_kind_of line ≡ cond long TooLong Within = rw e refl in
     subst (λ (kind : LineKind). (kind ≡ TooLong) ⊎ (kind ≡ Within)) (sym is) (either_kind long)
 
--- ---- what is told of a line
+-- ---- what is reported of a line
 
--- the value that is told of line n
+-- the value may be reported of line n
 data Tells (rules : Rules) (n : ℕ) (line : List ℕ) : Data → Type 0 where
   of_fault : (code : List ℕ) → IsSmall n → HasFault rules.grid line code → Tells rules n line (refused_data code n)
   of_want : (id : List ℕ) (b : BoardModel) → IsSmall n → Names rules.grid line id b → rules.allows b None → Tells rules n line (refused_data (codes "V3") n)
@@ -182,7 +182,7 @@ module _ (rules : Rules) (S : Type 0) where
       let here : answer ≡ passed_over = subst (λ (kind : LineKind). AnswersKind rules kind (without_return line) answer) (kind_over line over) is in
       ap (answer_text n) here
 
-  -- these values are told of these lines, one of each
+  -- these values may be reported of these lines, one of each
   abbrev Told : List (ℕ × List ℕ) → List Data → Type 0
   Told [] [] = ⊤
   Told [] (d ∷ ds) = ⊥
@@ -221,7 +221,7 @@ module _ (rules : Rules) (S : Type 0) where
   told_length (q ∷ qs) [] told = absurd told
   told_length (q ∷ qs) (d ∷ ds) told = ap suc (told_length qs ds told.1)
 
-  -- the value at a place is told of the line at this place
+  -- the value at a place may be reported of the line at this place
   abbrev ToldAt : List (ℕ × List ℕ) → List Data → ℕ → Type 0
   ToldAt qs ds k = (q : ℕ × List ℕ) × (d : Data) × (slice_get qs k ≡ Some q) × (slice_get (map compact_text ds) k ≡ Some (compact_text d)) × Tells rules q.0 q.1 d × (S → IsSettledData d)
 
@@ -231,7 +231,7 @@ module _ (rules : Rules) (S : Type 0) where
   told_at (q ∷ qs) (d ∷ ds) zero told few = (q, d, refl, refl, told.0.0, told.0.1)
   told_at (q ∷ qs) (d ∷ ds) (suc k) told few = told_at qs ds k told.1 (omega arith)
 
--- ---- what is read is what was told
+-- ---- what is read is what was reported
 
 abbrev data_or : Option Data → Data
 data_or None = null
@@ -295,12 +295,12 @@ module _ (rules : Rules) where
   unnamed_true n line d none (of_want id b small names lacking) = absurd (none id b names)
   unnamed_true n line d none (of_board id b outcome names allowed small) = absurd (none id b names)
 
--- what is told, as it is read
+-- what is reported, as it is read
 module _ (rules : Rules) (S : Type 0) (lines : List (List ℕ)) (output : List ℕ) (told : AreTold rules S 1 lines output) where
   as_many : length (lines_of output) ≡ length (questions 1 lines)
   as_many = ap length told.1 ∙ told_length rules S (questions 1 lines) told.0 told.2
 
-  -- the value that is read at a place is the one that was told there
+  -- the value that is read at a place is the one that was reported there
   same_value : (k : ℕ) (d : Data) (at : ToldAt rules S (questions 1 lines) told.0 k) → IsReply output k d → at.1 ≡ d
   same_value k d at seen =
       let text : compact_text at.1 ≡ seen.0 = ap line_or (sym at.3 ∙ sym (ap (λ (ls : List (List ℕ)). slice_get ls k) told.1) ∙ seen.1) in

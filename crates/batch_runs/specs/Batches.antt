@@ -24,7 +24,7 @@ use Rattle.batch_runs.specs.declared.stats.Solved.{Solved}
 use Rattle.batch_runs.specs.declared.faults.LinesFault.{LinesFault}
 use Rattle.batch_runs.specs.declared.faults.LinesFault.TheVariants.{Read, Write, Memory}
 
--- the shape of the boards, what is asked of each, and which outcomes it may be answered by; no outcome tells a want of memory before the first step
+-- the shape of the boards, what is asked of each, and which outcomes it may be answered by; None is a refusal of memory before the first step
 pub record Rules : Type 1 where
   pub grid : ShapeModel
   pub task : BoardModel → Task
@@ -34,7 +34,7 @@ pub record Rules : Type 1 where
 abbrev pub IsTruthful : Rules → Type 0
 IsTruthful rules = (b : BoardModel) (outcome : Ending) → rules.allows b (Some outcome) → EndAnswers (rules.task b) outcome
 
--- who solves a board gives an ending that it may be answered by, or tells a want of memory where that may be answered
+-- a solver gives an ending that the board may be answered by, or says that memory was refused, where the rules allow that
 abbrev pub MayGive : Rules → BoardModel → Result Solved OutOfMemory → Type 0
 MayGive rules b (Ok solved) = rules.allows b (Some solved.ending)
 MayGive rules b (Err refused) = rules.allows b None
@@ -51,7 +51,8 @@ pub data Answer : Type 0 where
   refused : (code : List ℕ) → Answer
   answered : (id : List ℕ) (outcome : Ending) → Answer
 
--- a line to be read is refused by its first fault, or it is answered by an outcome that is allowed for its board and whose numbers a report can tell, or refused by V3 where a want of memory before the first step is allowed for it
+-- A line to be read is refused by its first fault. Or it is answered by an outcome that is allowed for its board, with numbers that a report
+-- can state. Or V3 refuses it, where the rules allow for its board that memory is refused before the first step.
 pub data AnswersEntry (rules : Rules) (line : List ℕ) : Answer → Type 0 where
   by_fault : (fault : EntryFault) → IsFirstEntryFault rules.grid line fault → AnswersEntry rules line (refused (entry_code fault))
   by_outcome : (id : List ℕ) (b : BoardModel) (outcome : Ending) → IsEntry rules.grid line id b → rules.allows b (Some outcome) → HasSmallNumbers outcome → AnswersEntry rules line (answered id outcome)
@@ -82,7 +83,7 @@ answer_text n passed_over = []
 answer_text n (refused code) = report_text (refused_data code n)
 answer_text n (answered id outcome) = report_text (outcome_data id outcome)
 
--- what is written of the answers to lines of which the first has number n
+-- what is written of the answers to lines that are numbered from n on
 abbrev pub answers_text : ℕ → List Answer → List ℕ
 answers_text n [] = []
 answers_text n (answer ∷ answers) = answer_text n answer ++ answers_text (n + 1) answers
@@ -209,7 +210,8 @@ HasFailed sink = sink.has_failed ≡ true
 abbrev pub KeepsFailure : Change SinkState → Type 0
 KeepsFailure sink = sink.after.has_failed ≡ sink.before.has_failed
 
--- How a run over lines ends: all lines are reported; or reading failed, and the lines before are reported; or writing failed, and a beginning of the reports is written; or memory was wanting for a report, and those before it are written.
+-- How a run over lines ends. All lines are reported. Or reading failed, and the lines before are reported. Or writing failed, and a beginning
+-- of the reports is written. Or memory was refused for a report, and those before it are written.
 abbrev pub ReportsLines : Rules → Change SourceState → Change SinkState → Result Summary LinesFault → Type 0
 ReportsLines rules source sink (Ok counts) = ReportsAll rules source sink counts × IsReadable source × KeepsFailure sink
 ReportsLines rules source sink (Err Read) = ReportsWhole rules source sink × KeepsFailure sink

@@ -20,7 +20,8 @@ pub record IsTrueOfBoard (task : Task) (id : List ℕ) (d : Data) : Type 0 where
   pub unsolvable : HasStatus d (codes "unsolvable") → SaysNone task d
   pub bounded : HasStatus d (codes "bounded") → SaysBound task d
 
--- The output has one line for each line of the input that isn't passed over, in their order, and each is read as JSON. What it says of a board that is named there is true, or refuses it for want of memory; and of a line that names none, it says a fault.
+-- The output has one line for each line of the input that isn't passed over, in their order, and each is read as JSON. What it says of a
+-- board that a line names is true, or it refuses the line by V3, where the rules allow that. Of a line that names none, it says a fault.
 pub record TellsTheTruth (rules : Rules) (lines : List (List ℕ)) (output : List ℕ) : Type 0 where
   pub one_each : length (lines_of output) ≡ length (questions 1 lines)
   pub json : (k : ℕ) → k < length (lines_of output) → (d : Data) × IsReply output k d

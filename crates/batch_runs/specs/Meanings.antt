@@ -1,4 +1,4 @@
--- The words of the main theorem: what the lines of an input ask, and what a line of the output says.
+-- The terms of the main theorem: what the lines of an input ask, and what a line of the output says.
 use Rattle.std.specs.Prelude.{ℕ, ◌≡◌, ◌+◌, ◌⊎◌, List, [], ◌∷◌, slice_get, Bool, not, if◌then◌else◌, Option, Some, codes}
 use Rattle.serde_json.specs.Data.{Data}
 use Rattle.board.specs.Shapes.{ShapeModel}
@@ -27,7 +27,7 @@ abbrev pub questions : ℕ → List (List ℕ) → List (ℕ × List ℕ)
 questions n [] = []
 questions n (line ∷ lines) = if asks line then (n, line) ∷ questions (n + 1) lines else questions (n + 1) lines
 
--- of the lines that ask, counted from 0, the k-th is this one, which has number n
+-- the k-th of the lines that ask, counted from 0, is this one, which has number n
 abbrev pub IsQuestion : List (List ℕ) → ℕ → ℕ → List ℕ → Type 0
 IsQuestion lines k n line = slice_get (questions 1 lines) k ≡ Some (n, line)
 
@@ -42,7 +42,7 @@ HasFault grid line code =
 
 -- ---- what a line of the output says
 
--- of the lines of the output, counted from 0, the k-th is read as this value
+-- the k-th line of the output, counted from 0, is read as this value
 abbrev pub IsReply : List ℕ → ℕ → Data → Type 0
 IsReply output k d = (line : List ℕ) × (slice_get (lines_of output) k ≡ Some line) × Reads line d
 
@@ -61,7 +61,7 @@ SaysNone task d =
     ((plan : List Move) (cost : ℕ) → ¬ Leads task.rule task.start plan task.goal cost)
     × ((why : Why) × SaysText d (codes "why") (why_word why) × AllowsWhy task why)
 
--- a bound, below which no plan costs, for a cause that is true; and a plan that leads to the goal at its cost, or none
+-- a bound, and no plan costs less, for a cause that is true; and a plan that leads to the goal at its cost, or none
 abbrev pub SaysBound : Task → Data → Type 0
 SaysBound task d =
     (bound : ℕ) × (best : Option (ℕ × List Move)) × (cause : Cause)

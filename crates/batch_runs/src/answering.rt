@@ -1,4 +1,4 @@
-//! Who answers boards, and what is answered of each line.
+//! Solvers of boards, and what is answered of each line.
 
 ghost use Rattle.std.specs.Prelude.{ℕ, ◌≡◌, ◌≢◌, List, All, IfOk, IfSome, OnErr, Some, None};
 ghost use Rattle.std.specs.Prelude.{string_bytes};
@@ -19,13 +19,13 @@ use reports::{NoReport, outcome_report, refused_report};
 use std::alloc::Global;
 use std::marker::Model;
 
-/// What says how boards are answered.
+/// Rules of how boards are answered.
 pub trait Ruled {
     // The shape of the boards, what is asked of a board, and what it may be answered by.
     ghost rules: { Self → Rules };
 }
 
-/// Who answers boards, as the rules allow.
+/// A solver of boards, which answers them as the rules allow.
 pub trait Solver: Ruled {
     ghost use Rattle.batch_runs.specs.declared.stats.Solved.{Solved};
 
@@ -47,7 +47,7 @@ pub trait Solver: Ruled {
         ensures stats { IfOk result (has_stats self.now start.now) };
 
     /// Boards with their endings, the first one last: this board, and boards of the lines among the
-    /// bytes that the source holds behind its line. There may be none.
+    /// bytes that the source holds behind its line. The list may be empty.
     fn solve_ahead(&self, start: &Board, held: &[u8]) -> Vec<(Board, Solved)>
         requires callable { is_callable self.now }
         requires grid { start.now.grid ≡ (Self.rules self.now).grid }
@@ -94,8 +94,8 @@ impl<'a, A: Solver> Answerer<'a, A> {
         }
     }
 
-    /// What is written for a line that isn't passed over, and the counts after it. Its bytes are given
-    /// where it is to be read, and those that the source holds behind it.
+    /// What is written for a line that isn't passed over, and the counts after it. `bytes` are its
+    /// bytes, where it is to be read, and `held` those that the source holds behind it.
     pub(crate) fn report_line(
         &mut self,
         line: Line,
@@ -153,8 +153,8 @@ impl<'a, A: Solver> Answerer<'a, A> {
         Ok((text, summary.with_outcome(&solved.ending)))
     }
 
-    // What is answered of a board: what is ready, or what the solver says. Where nothing is ready, it
-    // and boards behind it may be solved now.
+    // What is answered of a board: what is ready, or what the solver says. Where nothing is ready,
+    // it and boards behind it may be solved now.
     fn end_board(&mut self, start: &Board, held: &[u8]) -> Result<Solved, OutOfMemory>
         requires { start.now.grid ≡ (A.rules self.old).grid }
         ensures same { self.new ≡ self.old }
@@ -171,8 +171,8 @@ impl<'a, A: Solver> Answerer<'a, A> {
         self.solver.solve(start)
     }
 
-    // The ending that is ready next, if it is this board's. Else it is given up: the board that it is
-    // of is solved again.
+    // The ending that is ready next, if it is this board's. Else it is dropped, and its board is
+    // solved again when its line comes.
     fn take_ready(&mut self, start: &Board) -> Option<Solved>
         ensures same { self.new ≡ self.old }
         ensures answered { IfSome result

@@ -50,11 +50,11 @@ impl Summary {
 }
 
 /// Writes a report for each line of the source that isn't passed over, in order, and flushes the
-/// sink after each. A board is answered by the solver as its rules allow. Where they are truthful, so
-/// is what is written.
+/// sink after each. The solver answers a board as its rules allow. Where they are truthful, so is
+/// what is written.
 ///
-/// Boards may be solved ahead, from bytes that the source already holds. So nothing is read for boards
-/// that are not answered yet.
+/// Boards may be solved ahead, from bytes that the source already holds. So nothing is read for
+/// boards that are not answered yet.
 pub fn run_lines<S: Source, K: Sink, A: Solver>(
     alloc: Global,
     source: &mut S,
@@ -122,7 +122,7 @@ fn report_all<S: Source, K: Sink, A: Solver>(
     }
 }
 
-/// Writes a report, and passes it on at once, so that who waits for it has it.
+/// Writes a report and flushes the sink, so that a reader who waits for the report has it at once.
 pub fn send_report<K: Sink>(sink: &mut K, text: &str) -> Result<(), WriteFailed>
     ensures writes { Writes (change K.state sink.old sink.new) text.now result }
     ensures last { OnOk result (K.is_flushed sink.new) }

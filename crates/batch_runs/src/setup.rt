@@ -78,8 +78,8 @@ impl Setup {
         }
     }
 
-    /// The setup with these tables, of the goal's shape, each of which is a potential for the goal
-    /// and the weights.
+    /// The setup with these tables, which are of the goal's shape. They are potentials for the goal
+    /// and the weights, or folded from such.
     pub fn bound(self, bound: Bound) -> Self
         requires { Guides self.goal self.rule bound }
         ensures { result ≡ record self { tables = bound } }
@@ -89,8 +89,8 @@ impl Setup {
         setup
     }
 
-    /// The setup with the same tables, folded: no sum of theirs is higher. A setup that has no whole
-    /// table stays as it is. An error is answered only where memory was refused.
+    /// The setup with the same tables, folded: no sum of theirs is higher. A setup that has no
+    /// whole table stays as it is. An error is answered only where memory was refused.
     pub fn folded(self, alloc: Global) -> Result<Self, OutOfMemory>
         ensures folded { IfOk result (IsFoldedSetup self) }
         ensures kept { self.tables.lookups ≡ [] → result ≡ Ok self }
@@ -123,7 +123,7 @@ impl Setup {
         setup
     }
 
-    /// The setup with so many workers; or V2 where these are fewer than 1, or more than 16.
+    /// The setup with this number of workers, or V2 where it is below 1 or above 16.
     pub fn workers(self, workers: usize) -> Result<Self, SolveFault>
         ensures accepted { IsOk result ↔ ((1 ≤ workers) × (workers ≤ WORKER_LIMIT)) }
         ensures value { IfOk result (λ setup. setup ≡ record self { workers = workers }) }

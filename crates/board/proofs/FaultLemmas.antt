@@ -61,7 +61,7 @@ IsSeen-more grid numbers place seen tile before within at below few new =
       marks = length-set seen tile true ∙ before.marks;
     }
 
--- numbers of which none is at fault are the tiles of a board
+-- numbers without a fault are the tiles of a board
 pub all_seen : (grid : ShapeModel) (numbers : List ℕ) (place : ℕ) (seen : List Bool) → IsShape grid → length numbers ≡ cell_count grid → length numbers ≤ place → IsSeen grid numbers place seen → IsBoard (record { grid = grid; tiles = numbers })
 all_seen grid numbers place seen sides one_each end before =
     let all : take place numbers ≡ numbers = take_all place numbers end in
@@ -72,7 +72,7 @@ all_seen grid numbers place seen sides one_each end before =
       different = subst (λ (ts : List ℕ). AllPairs (λ x y. x ≢ y) ts) all before.different;
     }
 
--- a number that stood before stands at two places
+-- no place of a list of different numbers has the number of an earlier place
 not_repeated : (numbers : List ℕ) (place : ℕ) → place < length numbers → AllPairs (λ x y. x ≢ y) numbers → Contains (take place numbers) (get_or numbers place 0) → ⊥
 not_repeated numbers place within different (k, inside, is) =
     let before : k < place = omega (arith, inside, length-take place numbers) in

@@ -47,11 +47,11 @@ digits_of-packed (suc n) xs within below =
     let rest : digits_of n (packed_number (take n xs)) ≡ take n xs = digits_of-packed n xs (omega arith) below in
     cc
 
--- of two numbers to the base n the one with the smaller first digits is smaller
+-- a number to the base n with smaller first digits is smaller
 first_smaller : (n x y p q : ℕ) → x < y → p < n → x * n + p < y * n + q
 first_smaller n x y p q less low = let e : suc x * n ≤ y * n = mul-le (suc x) n y n less (omega arith) in omega arith
 
--- of two numbers to the base n the first digits decide, and where they are the same the last one
+-- the first digits of two numbers to the base n decide their order, and where they are the same the last one does
 first_decides : (n x y p q : ℕ) → p < n → q < n → (x * n + p < y * n + q) ↔ ((x < y) ⊎ ((x ≡ y) × (p < q)))
 first_decides n x y p q low high = (
   (λ less. elim (cases_order x y) [
@@ -107,7 +107,7 @@ key_fits b i is before =
     let most : 32 ^ length (take i b.tiles) ≤ 32 ^ 24 = pow-le-pow_right {n = 32} (omega arith) {j = 24} (omega (arith, length-take i b.tiles)) in
     omega arith
 
--- before the first digit is read none of the digits stand behind
+-- before the first digit is read, no digit is behind the others
 pub digits_begin : (n key : ℕ) (tiles : List ℕ) → digits_of n key ≡ digits_of n key ++ drop n (take n tiles)
 digits_begin n key tiles =
     let none : drop n (take n tiles) ≡ [] = drop_all n (take n tiles) (omega (arith, length-take n tiles)) in

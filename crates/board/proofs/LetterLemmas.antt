@@ -1,4 +1,4 @@
--- The letters of the moves are read as what they stand for.
+-- The letter of each move is read as that move.
 use Rattle.std.proofs.Common.{◌≡◌, ℕ, Bool, true, false, cond, eqb, refl, ap, ◌∙◌, Some, None}
 use Rattle.std.specs.Prelude.{◌↔◌}
 use Rattle.std.proofs.lemmas.Bool.{eqb-true}

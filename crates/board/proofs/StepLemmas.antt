@@ -19,7 +19,7 @@ use Rattle.board.proofs.TileLemmas.{has_cell, same_place}
 use Rattle.board.proofs.MoveLemmas.{exchange_board}
 use Rattle.board.proofs.NeighbourLemmas.{cells_above, successor_moves}
 
--- the blank stands on a cell
+-- the blank is on a cell
 pub blank_stands : (b : BoardModel) → IsBoard b → (blank_of b < cell_count b.grid) × (get_or b.tiles (blank_of b) 0 ≡ 0)
 blank_stands b board = has_cell b board 0 (cells_above b.grid board.sides)
 

@@ -51,7 +51,7 @@ cell_is b different x t x_in e =
     (λ k lt. ne_eqb _ _ (λ same. let at : k ≡ x = same_place b.tiles different k x (omega arith) x_in (same ∙ sym e) in absurd (omega arith)))
     (λ _. eq-eqb _ _ e)
 
--- the numbers of a list in which t does not stand, with t before them, are distinct
+-- distinct numbers stay distinct with t before them, where t is not among them
 fresh : (xs : List ℕ) (t : ℕ) → AllPairs (λ x y. x ≢ y) xs → length xs ≤ position_or_len (λ x. x == t) xs → IsDistinct eqb (t ∷ xs)
 unfolding IsDistinct
 fresh xs t different past = (
@@ -65,7 +65,7 @@ in_list (x ∷ xs) n q all found =
     ⊎_elim (λ (e : eqb q x ≡ true). let same = eqb-true q x e in let low = all.0 in omega arith) (λ (e : list_any (eqb q) xs ≡ true). in_list xs n q all.1 e)
     (or_cases (eqb q x) (list_any (eqb q) xs) found)
 
--- each number below the count of cells stands on a cell
+-- each number below the count of cells is on a cell
 pub has_cell : (b : BoardModel) → IsBoard b → (t : ℕ) → t < cell_count b.grid → (cell_of b t < cell_count b.grid) × (get_or b.tiles (cell_of b t) 0 ≡ t)
 has_cell b board t t_in =
     ⊎_elim

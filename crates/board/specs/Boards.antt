@@ -1,4 +1,4 @@
--- Boards: which tile stands on which cell (Korf 1985).
+-- Boards: which tile is on which cell (Korf 1985).
 use Rattle.std.specs.Prelude.{ℕ, ◌≡◌, ◌≢◌, ◌<◌, ◌==◌, List, length, All, AllPairs}
 use Rattle.std.specs.List.{position_or_len, range_with_len}
 use Rattle.board.specs.Shapes.{ShapeModel, IsShape, cell_count}
@@ -15,7 +15,7 @@ pub record IsBoard (b : BoardModel) : Type 0 where
   pub in_range : All (λ tile. tile < cell_count b.grid) b.tiles
   pub different : AllPairs (λ x y. x ≢ y) b.tiles
 
--- the cell on which a number stands
+-- the cell that a number is on
 abbrev pub cell_of : BoardModel → ℕ → ℕ
 cell_of b tile = position_or_len (λ x. x == tile) b.tiles
 

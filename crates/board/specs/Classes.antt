@@ -3,7 +3,7 @@ use Rattle.std.specs.Prelude.{ℕ, ◌≡◌, ◌+◌, ◌-◌, ◌%◌, List, [
 use Rattle.board.specs.Shapes.{ShapeModel, row_of, column_of}
 use Rattle.board.specs.Boards.{BoardModel, blank_of}
 
--- how many pairs of places there are of which the earlier holds the greater number; the blank counts as 0
+-- the number of pairs of places where the earlier place holds the greater number; the blank counts as 0
 abbrev pub inversions : List ℕ → ℕ
 inversions [] = 0
 inversions (x ∷ xs) = count_by (λ y. nat_lt y x) xs + inversions xs

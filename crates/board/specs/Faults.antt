@@ -10,7 +10,7 @@ use Rattle.board.specs.declared.faults.WeightsFault.TheVariants as weights
 use Rattle.board.specs.declared.faults.BoardFault.{BoardFault}
 use Rattle.board.specs.declared.faults.BoardFault.TheVariants.{SideOutOfRange, WrongCount, TileOutOfRange, TileRepeated, WrongCountOfWeights, WeightOutOfRange}
 
--- there are as many numbers as cells, and none before this place is at fault
+-- there are as many numbers as cells, and those before this place are in range and different
 pub record IsFirstTilesPlace (grid : ShapeModel) (numbers : List ℕ) (place : ℕ) : Type 0 where
   pub one_each : length numbers ≡ cell_count grid
   pub within : place < length numbers

@@ -2,11 +2,11 @@
 use Rattle.std.specs.Prelude.{ℕ, ◌≡◌, ◌-◌, List, ◌++◌, length, take, drop, replicate}
 use Rattle.std.proofs.Common.{sym, ◌∙◌, ap, take-append-drop}
 
--- an array of so many numbers that holds these, with zeros behind them
+-- an array of `most` numbers: these, with zeros behind them
 abbrev pub array_of : ℕ → List ℕ → List ℕ
 array_of most numbers = numbers ++ replicate (most - length numbers) 0
 
--- behind the first so many numbers of the array are zeros
+-- behind its first `count` numbers the array has `most - count` zeros
 abbrev pub IsPadded : ℕ → ℕ → List ℕ → Type 0
 IsPadded most count array = drop count array ≡ replicate (most - count) 0
 

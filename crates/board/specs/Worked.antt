@@ -54,7 +54,7 @@ TwoKeys = (key_of (two_by_two 0 1 2 3) ≡ 1091) × (key_of (two_by_two 1 0 2 3)
 abbrev pub OneRow : Type 0
 OneRow = Proves (unit_rule (grid_of 2 2)) ((two_by_two 1 0 2 3, 0) ∷ []) (λ _. 0) (two_by_two 1 0 2 3) (goal_of (grid_of 2 2)) 1
 
--- no row is needed where the sum of the start reaches the cost; here the blank's cell stands for a sum, 1 at the start and 0 at the goal
+-- no row is needed where the sum of the start reaches the cost; the sum here is the blank's cell, 1 at the start and 0 at the goal
 abbrev pub NoRow : Type 0
 NoRow = Proves (unit_rule (grid_of 2 2)) [] blank_of (two_by_two 1 0 2 3) (goal_of (grid_of 2 2)) 1
 

@@ -73,7 +73,7 @@ impl Eq for Board {
 }
 
 impl Default for Board {
-    /// Korf's goal of 2 by 2: what stands where no board was put yet.
+    /// Korf's goal of 2 by 2, a placeholder where no board was put yet.
     fn default() -> Self
         ensures { result ≡ goal_of (record { rows = 2; cols = 2 }) }
     {
@@ -86,9 +86,11 @@ impl Default for Board {
 }
 
 impl Board {
-    /// The board with these numbers on its cells, from cell 0 on, or the first fault: E2 where
-    /// their count is not that of the cells, else by place E3 where a number is not below the count
-    /// of cells, E4 where it stood before.
+    /// The board with these numbers on its cells, from cell 0 on, or the first fault:
+    ///
+    /// - E2: their count is not the count of cells.
+    /// - E3: the first faulty place has a number that is not below the count of cells.
+    /// - E4: the first faulty place has a number that an earlier place has too.
     #[tactic(auto, using(crate::proofs::FaultLemmas::no_fault, crate::proofs::FaultLemmas::one_fault))]
     pub fn from_tiles(shape: Shape, numbers: &[u8]) -> Result<Self, TilesFault>
         ensures accepted { IsOk result ↔ IsBoard (record { grid = shape; tiles = numbers.now }) }
@@ -188,7 +190,7 @@ impl Board {
         self.shape
     }
 
-    // How many pairs of cells there are of which the earlier holds the greater number.
+    // The number of pairs of cells where the earlier cell holds the greater number.
     pub(crate) fn inversions(&self) -> usize
         ensures value { result ≡ inversions self.now.tiles }
         ensures high { result ≤ 25 * 25 }

@@ -17,7 +17,7 @@ pub fn same_class(a: &Board, b: &Board) -> bool
     inversions % 2 == distance % 2
 }
 
-// How many pairs of places there are of which the earlier holds the greater number.
+// The number of pairs of places where the earlier place holds the greater number.
 pub(crate) fn count_inversions(tiles: &[u8]) -> usize
     requires { length tiles.now ≤ 25 }
     ensures value { result ≡ inversions tiles.now }

@@ -71,7 +71,7 @@ AreListed-flushed IsSuch a b c boards (Err failure) before such flushed = record
 
 -- ---- boards one by one
 
--- so many boards are listed, each with the property
+-- `count` boards are listed, each with the property
 pub record EachIsListed (HasIt : BoardModel → Type 0) (sink : Change SinkState) (count : ℕ) : Type 0 where
   pub boards : List BoardModel
   pub each : AreBoardsWith HasIt count boards

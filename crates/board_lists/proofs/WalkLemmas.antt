@@ -49,7 +49,7 @@ free true d v nu nd = false≢true (sym nu)
 free false true v nu nd = false≢true (sym nd)
 free false false v nu nd = false≢true (v refl)
 
--- four tests of which none passes: of the first and the last way one is there, and of the others; and what takes the last move back takes one
+-- not all four tests fail: up or down is there, and so is left or right, and only one move takes the last one back
 stuck : (u l r d : Bool) (last : Option Move) → (u ≡ false → d ≡ true) → (l ≡ false → r ≡ true) → (u && not (takes_back last U)) ≡ false → (l && not (takes_back last L)) ≡ false → (r && not (takes_back last R)) ≡ false → (d && not (takes_back last D)) ≡ false → ⊥
 stuck u l r d None v h nu nl nr nd = free u d v nu nd
 stuck u l r d (Some U) v h nu nl nr nd = free l r h nl nr
@@ -109,7 +109,7 @@ goes_on b last m leads = by_test (is_some (neighbour b.grid m (blank_of b))) las
     by_test false (Some before) e same = false≢true e
     by_test true (Some before) e same = let back : before ≡ opposite m = cc in false≢true (ap not (sym ((moves_Decide before (opposite m)).1 back)) ∙ e)
 
--- a walk of so many moves so far, and its last move
+-- a walk of `moves` moves so far, and its last move
 pub record IsUnderWay (goal : BoardModel) (moves : ℕ) (b : BoardModel) (last : Option Move) : Type 0 where
   pub walked : IsWalkedTo goal moves b
   pub grid : b.grid ≡ goal.grid

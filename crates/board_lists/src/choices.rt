@@ -19,8 +19,8 @@ pub enum Choice {
     Whole,
 }
 
-/// Writes the lines of the boards that are chosen of a goal's class, and flushes the sink. Their ids
-/// are `b1`, `b2` and so on.
+/// Writes the lines of the boards that are chosen of a goal's class, and flushes the sink. Their
+/// ids are `b1`, `b2` and so on.
 pub fn list_boards<K: Sink>(sink: &mut K, goal: &Board, choice: Choice) -> Result<(), WriteFailed>
     requires { MayBeListed goal.now.grid choice }
     ensures lists { ListsBoards (AreChosen goal.now choice)

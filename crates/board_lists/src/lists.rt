@@ -65,7 +65,8 @@ pub(crate) fn list_walked<K: Sink>(
     sink.flush()
 }
 
-/// Writes the lines of all boards of the goal's class, in rising order of key, and flushes the sink.
+/// Writes the lines of all boards of the goal's class, in rising order of key, and flushes the
+/// sink.
 pub(crate) fn list_class<K: Sink>(sink: &mut K, goal: &Board) -> Result<(), WriteFailed>
     requires { cell_count goal.now.grid ≤ MOST_CELLS }
     ensures lists { ListsBoards (AreWholeClass goal.now)

@@ -39,7 +39,7 @@ PutsTellFailures = (sink : Change SinkState) (bytes : List ℕ) (answer : Result
 abbrev pub FlushesTellFailures : Type 0
 FlushesTellFailures = (sink : Change SinkState) (answer : Result (Unit {0}) WriteFailed) → Flushes sink answer → sink.after.has_failed ≡ is_err answer
 
--- what is known to stand in a sink stays there, and behind it stand the bytes that were put; where that failed, a beginning of them
+-- a put adds its bytes behind what the sink is known to hold, or a beginning of them where it fails
 abbrev pub PutsAddBytes : Type 0
 PutsAddBytes =
     (sink : Change SinkState) (held bytes : List ℕ) (answer : Result (Unit {0}) WriteFailed)
@@ -47,11 +47,11 @@ PutsAddBytes =
     → Writes sink bytes answer
     → (sent unsent : List ℕ) × (bytes ≡ sent ++ unsent) × (sink.after.contents ≡ Some (held ++ sent)) × (is_err answer ≡ false → unsent ≡ [])
 
--- a flush adds nothing to what is known to stand in a sink, whatever it answers
+-- a flush adds nothing to what the sink is known to hold, whatever it answers
 abbrev pub FlushesAddNone : Type 0
 FlushesAddNone = (sink : Change SinkState) (held : List ℕ) (answer : Result (Unit {0}) WriteFailed) → sink.before.contents ≡ Some held → Flushes sink answer → sink.after.contents ≡ Some held
 
--- to a sink that has failed every put fails, and adds nothing to what is known to stand there
+-- every put to a sink that has failed fails, and adds nothing to what the sink is known to hold
 abbrev pub PutFailuresLast : Type 0
 PutFailuresLast =
     (sink : Change SinkState) (held bytes : List ℕ) (answer : Result (Unit {0}) WriteFailed)
@@ -59,6 +59,6 @@ PutFailuresLast =
     → Writes sink bytes answer
     → (is_err answer ≡ true) × (sink.before.contents ≡ Some held → sink.after.contents ≡ Some held)
 
--- and every flush fails
+-- and every flush to it fails
 abbrev pub FlushFailuresLast : Type 0
 FlushFailuresLast = (sink : Change SinkState) (answer : Result (Unit {0}) WriteFailed) → sink.before.has_failed ≡ true → Flushes sink answer → is_err answer ≡ true

@@ -3,7 +3,7 @@ use Rattle.std.specs.Prelude.{ℕ, ◌≡◌, ◌<◌, true, false, List, [], �
 use Rattle.std.specs.Io.KnownBytes.{Appends, Keeps}
 use Rattle.byte_streams.specs.Streams.{SinkState, Change}
 
--- all of the bytes were written after what stood there
+-- all of the bytes were written after those that the sink held
 abbrev pub Puts : Change SinkState → List ℕ → Type 0
 Puts sink bytes = Appends sink.before.contents sink.after.contents bytes
 

@@ -40,14 +40,14 @@ pub fn sinks_tell_failures()
     ensures flushes { FlushesTellFailures }
 {}
 
-/// Behind what is known to stand in a sink a put adds its bytes, or a beginning of them where it
-/// fails. A flush adds none.
+/// A put adds its bytes behind what a sink is known to hold, or a beginning of them where it fails.
+/// A flush adds none.
 pub fn puts_add_bytes()
     ensures puts { PutsAddBytes }
     ensures flushes { FlushesAddNone }
 {}
 
-/// To a sink that has failed every put and every flush fails, and adds nothing.
+/// Every put and every flush to a sink that has failed fails, and adds nothing.
 pub fn sink_failures_last()
     ensures puts { PutFailuresLast }
     ensures flushes { FlushFailuresLast }

@@ -11,8 +11,8 @@ use std::io::Read;
 ///
 /// Each `Read` is a `Reader`. std does not say when a read fails, so these words hold of any two
 /// states there. But what is proved of every `Reader` can speak of a failure only where a read has
-/// answered one, and of bytes given only where one read gave them. Implement it by hand for a
-/// reader of which more is known, as that it never fails.
+/// answered one, and of bytes given only where one read gave them. Implement it by hand where more
+/// is known of a reader, such as that it never fails.
 pub trait Reader {
     // The bytes that are left, where they are known.
     ghost left: { Self → Option (List ℕ) };

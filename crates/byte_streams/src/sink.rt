@@ -25,8 +25,8 @@ pub trait Sink {
 
     /// Writes all of the bytes.
     ///
-    /// It fails exactly where the sink has failed after it. What was written then is what stood
-    /// before and a beginning of the bytes, and each later call fails and writes nothing.
+    /// It fails exactly where the sink has failed after it. A beginning of the bytes was written
+    /// then, after what was written before. Each later call fails and writes nothing.
     fn put(&mut self, bytes: &[u8]) -> Result<(), WriteFailed>
         ensures { Writes (change state self.old self.new) bytes.now result };
 
@@ -77,8 +77,8 @@ impl<W: Writer> Sink for ByteSink<W> {
         ensures writes { Writes (change (byte_sink_state W.contents) self.old self.new)
             bytes.now result }
 
-        // It succeeds by writes of which each took bytes. It fails by such writes and one more,
-        // which failed or took no byte, or since it had failed before.
+        // It succeeds by writes that each took bytes. It fails by such writes and one more, which
+        // failed or took no byte, or since it had failed before.
         ensures taken { OnOk result
             (AreTaken W.write_takes (inner_writer self.old) bytes.now (inner_writer self.new)) }
         ensures cause { sink_has_failed self.old ≡ false → OnErr result
@@ -125,7 +125,8 @@ impl<W: Writer> Sink for ByteSink<W> {
     }
 }
 
-// One write of a text that is not empty. A writer that takes none of it would take none for ever.
+// One write of a text that is not empty. A writer that takes none of it may never take any, so that
+// counts as a failure.
 fn write_some<W: Writer>(writer: &mut W, bytes: &[u8]) -> Result<usize, WriteFailed>
     requires { 0 < length bytes.now }
     ensures bound { IfOk result (λ n. (0 < n) × (n ≤ length bytes.now)) }

@@ -26,8 +26,8 @@ pub trait Source {
     fn next_byte(&mut self) -> Result<Option<u8>, ReadFailed>
         ensures { GivesNext (change state self.old self.new) result };
 
-    /// The next bytes, as far as they were read already: whoever looks at them waits for nothing.
-    /// A source that reads no more than it gives holds none.
+    /// The next bytes, as far as they were read already, so looking at them waits for nothing. A
+    /// source that reads no more than it gives holds none.
     fn held(&self) -> &[u8]
         ensures { AreNext (state self.now).left result.now }
     {
@@ -56,7 +56,7 @@ impl<R: Reader> ByteSource<R> {
         }
     }
 
-    /// The reader, which stands after the last byte that was given.
+    /// The reader, positioned after the last byte that was given.
     pub fn into_inner(self) -> R
         ensures { result ≡ inner_reader self }
     {

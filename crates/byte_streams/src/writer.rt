@@ -11,8 +11,8 @@ use std::io::Write;
 ///
 /// Each `Write` is a `Writer`. std does not say when a call fails, so these words hold of any two
 /// states there. But what is proved of every `Writer` can speak of a failure only where a call has
-/// answered one, and of bytes taken or a flush only where one call did it. Implement it by hand for
-/// a writer of which more is known, as that it never fails.
+/// answered one, and of bytes taken or a flush only where one call did it. Implement it by hand
+/// where more is known of a writer, such as that it never fails.
 pub trait Writer {
     // The bytes that are written, where they are known, with those that a buffer holds back.
     ghost contents: { Self → Option (List ℕ) };

@@ -1,4 +1,4 @@
--- Certificates are read where they are spelled, and what stands before the first fault begins a spelling.
+-- Certificates are read where they are spelled, and what comes before the first fault begins a spelling, or announces groups or rows.
 use Rattle.std.proofs.Common.{◌≡◌, ◌⊎◌, inl, inr, ⊎_elim, ℕ, ◌<◌, ◌≤◌, ◌^◌, List, [], ◌∷◌, ◌++◌, length, Option, Some, None, Ok, Err, refl, sym, ap, subst, ◌∙◌, append-nil, append_assoc, arith}
 use Rattle.std.specs.List.{flat_map, AllByRecursion}
 use Rattle.board.specs.declared.moves.Move.{Move}
@@ -244,7 +244,7 @@ read_takes bytes all c rest e =
     same_pair : (a b : CertificateModel) (s t : List ℕ) → fine a s ≡ fine b t → pair a s ≡ pair b t
     same_pair a b s t e = cc
 
--- ---- what stands before a fault
+-- ---- what comes before a fault
 
 -- the beginning of a spelling, or one that announces groups or rows
 pub record Precedent (bytes from : List ℕ) : Type 0 where

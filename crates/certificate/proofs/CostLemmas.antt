@@ -125,7 +125,7 @@ face_of costs is = subst (IsKind costs) is (kind_says costs)
 pub unit_kind : (grid : ShapeModel) → cost_kind_of (unit_rule grid) ≡ 0
 unit_kind grid = let same : rule_eq (unit_rule grid) (unit_rule grid) ≡ true = (rules_Decide (unit_rule grid) (unit_rule grid)).1 refl in rw same refl
 
--- neither of both
+-- costs that are neither are of kind 2
 other_kind : (costs : WeightsModel) → (costs ≡ unit_rule costs.grid → ⊥) → (costs ≡ face_rule costs.grid → ⊥) → cost_kind_of costs ≡ 2
 other_kind costs no_unit no_face =
     let unit : rule_eq costs (unit_rule costs.grid) ≡ false = not_true _ (λ e. no_unit ((rules_Decide costs (unit_rule costs.grid)).0 e)) in
@@ -182,7 +182,7 @@ bytes_below [] all i inside = absurd (omega (arith, inside))
 bytes_below (b ∷ text) all zero inside = all.0
 bytes_below (b ∷ text) all (suc i) inside = bytes_below text all.1 i (omega (arith, inside))
 
--- bytes of which none is 0 are a cost rule
+-- bytes are a cost rule where none of them is 0
 above_is_rule : (grid : ShapeModel) (text : List ℕ) → IsShape grid → length text ≡ cell_count grid - 1 → All (λ weight. weight < 256) text → All (λ weight. 0 < weight) text → AreWeights (listed_rule grid text)
 above_is_rule grid text sides counted small above = listed_is_rule grid text sides counted above small
 

@@ -285,9 +285,9 @@ all_groups_law grid sides = Law-iff _ (AllGroupsParts grid) (SpellsAllGroups gri
 pub shape_of : (grid : ShapeModel) (before : List GroupModel) (g : GroupModel) → IsNextGroup grid before g → IsShape grid
 shape_of grid before g next = subst (λ (s : ShapeModel). IsShape s) next.sides next.group.sides
 
--- ---- what stands before a fault
+-- ---- what comes before a fault
 
--- before a faulty group stands nothing, or the number of its tiles
+-- before a faulty field of a group there is nothing of the group, or the number of its tiles
 abbrev pub IsGroupHead : List ℕ → Type 0
 IsGroupHead head = (head ≡ []) ⊎ ((size : ℕ) × (0 < size) × (size ≤ 24) × (head ≡ size ∷ []))
 
@@ -301,7 +301,7 @@ group_before grid before bytes all fault from e =
     (r.0.0 ∷ [], inr (r.0.0, omega (arith, p.1.above), p.1.below, refl), p.2 ∙ (λ i. p.1.is i ++ here i)))
     (one_fails (byte_within 1 24 bytes) (λ n. tiles grid before n) (fault, from) e)
 
--- before a faulty group stand fewer groups than are due
+-- before a faulty group there are fewer groups than are due
 pub record GroupsBefore (grid : ShapeModel) (before : List GroupModel) (n : ℕ) (bytes from : List ℕ) : Type 0 where
   pub done : List GroupModel
   pub fewer : length done < n

@@ -28,7 +28,7 @@ use Rattle.certificate.specs.declared.faults.ReadFault.TheVariants.{Format, Fail
 use Rattle.certificate.specs.Spellings.{number_text, count_text, group_text, row_text}
 use Rattle.certificate.specs.Sources.{IfFormat, EndsEarly, TakesDue, Finds, StopsAt, RefusesInput, ReadsField, RefusesAtEnd, ReadsAll, FindsAll}
 
--- ---- readers: what spells a value is read as that value, and what stands before a fault begins a text of the reader
+-- ---- readers: what spells a value is read as that value, and what comes before a fault begins a text of the reader
 
 pub AreBytes-front : (xs ys : List ℕ) → AreBytes (xs ++ ys) → AreBytes xs
 AreBytes-front [] ys all = tt
@@ -43,7 +43,7 @@ pub record Law {X : Type 0} (reader : Reader X) (Text : X → List ℕ → Type 
   pub again : (x : X) (text rest : List ℕ) → Text x text → reader (text ++ rest) ≡ Ok (x, rest)
   pub takes : (bytes : List ℕ) → AreBytes bytes → (x : X) (rest : List ℕ) → reader bytes ≡ Ok (x, rest) → (text : List ℕ) × Text x text × (bytes ≡ text ++ rest)
 
--- some value has a text, and what stands before a fault begins such a text
+-- some value has a text, and what comes before a fault begins such a text
 pub record Opens {X : Type 0} (reader : Reader X) (Text : X → List ℕ → Type 0) : Type 0 where
   pub some : (x : X) × (text : List ℕ) × Text x text
   pub before : (bytes : List ℕ) → AreBytes bytes → (fault : FormatFault) (from : List ℕ) → reader bytes ≡ Err (fault, from)
@@ -174,7 +174,7 @@ err_is X f g s t e =
     let same : p ≡ q = cc in
     ap (λ (z : FormatFault × List ℕ). z.1) same
 
--- a field is at fault where it begins
+-- a fault of a field counts from its beginning
 pub field_from : {X : Type 0} (fault : FormatFault) (n : ℕ) (value : List ℕ → Option X) (bytes : List ℕ) (f : FormatFault) (from : List ℕ) → field fault n value bytes ≡ Err (f, from) → bytes ≡ from
 unfolding field
 field_from {X = X} fault n value bytes f from e = by_cases (ltb (length bytes) n) (value (take n bytes)) e

@@ -131,7 +131,7 @@ row_before : (bytes s mid from : List ℕ) (r : BoardModel × ℕ) (done : List 
 row_before bytes s mid from r done parts first others =
     parts ∙ (λ i. first i ++ others i) ∙ sym (append_assoc (row_text r) (flat_map row_text done) from) ∙ ap (λ (l : List ℕ). l ++ from) (sym (flat_map-cons row_text r done))
 
--- before a faulty row stand fewer rows than are due
+-- before a faulty row there are fewer rows than are due
 pub record RowsBefore (grid : ShapeModel) (before : Option BoardModel) (n : ℕ) (bytes from : List ℕ) : Type 0 where
   pub done : List (BoardModel × ℕ)
   pub fewer : length done < n

@@ -253,7 +253,7 @@ pub last_is_board : (grid : ShapeModel) (before : Option BoardModel) (rs : List 
 last_is_board grid before [] is all = is
 last_is_board grid before (r ∷ rs) is all = last_is_board grid (Some r.0) rs all.0.board all.1
 
--- ---- want of memory, where bytes are due
+-- ---- memory is refused where bytes are due
 
 lacks_memory : {X : Type 0} {r : Reader X} (source : Change SourceState) (text : List ℕ) → Takes source text → IsCutOff r text → source.after.has_failed ≡ false → (refused : OutOfMemory) → RefusesInput r source (NoMemory refused)
 lacks_memory source text taken cut fine refused = record { seen = text; taken = taken; is = tt; first = tt; stops = cut; failed = fine }

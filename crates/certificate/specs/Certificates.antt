@@ -15,7 +15,8 @@ use Rattle.certificate.specs.declared.certificate.Claim.{Claim}
 use Rattle.certificate.specs.declared.certificate.Claim.TheVariants.{Least, Bound}
 use Rattle.certificate.specs.declared.certificate.Parts.{Parts}
 
--- Rows, which are boards with a cost, prove with the sums of the groups' tables that no plan from the start to the goal is cheaper than the cost. A plan leads there at that cost, or there is none, and the cost is a bound.
+-- Rows, which are boards with a cost, prove with the sums of the groups' tables that no plan from the start to the goal is cheaper than the
+-- cost. A plan leads there at that cost, or none is claimed, and the cost is a bound.
 pub record CertificateModel : Type 0 where
   pub version : Version
   pub grid : ShapeModel
@@ -50,7 +51,7 @@ pub record AreCostsOf (grid : ShapeModel) (costs : WeightsModel) : Type 0 where
   pub rule : AreWeights costs
   pub sides : costs.grid ≡ grid
 
--- groups of tiles of this grid's boards, of which no two share one
+-- groups of tiles of this grid's boards, and no two groups share a tile
 pub record IsSplitOf (grid : ShapeModel) (groups : PartitionModel) : Type 0 where
   pub split : IsPartition groups
   pub sides : groups.grid ≡ grid

@@ -1,4 +1,4 @@
--- What bytes spell the value of a field, or of a part of a certificate: the value is one that may stand there, and they are its text.
+-- What bytes spell the value of a field, or of a part of a certificate: the value is allowed there, and the bytes are its text.
 use Rattle.std.specs.Prelude.{ℕ, ◌≡◌, ◌≤◌, ◌<◌, ◌^◌, List, [], ◌∷◌, ◌++◌, length, map, All, Option, None, IfSome}
 use Rattle.std.specs.List.{flat_map, AllByRecursion}
 use Rattle.board.specs.declared.costs.TheConstants.{GREATEST_COST}
@@ -90,7 +90,7 @@ pub record SpellsGroup (grid : ShapeModel) (before : List GroupModel) (g : Group
   pub next : IsNextGroup grid before g
   pub is : text ≡ group_text g
 
--- n groups, of which no two share a tile, nor one of them with a group before them
+-- n groups: they share no tile with one another, and none with the groups before them
 pub record SpellsGroups (grid : ShapeModel) (before : List GroupModel) (n : ℕ) (gs : List GroupModel) (text : List ℕ) : Type 0 where
   pub count : length gs ≡ n
   pub groups : All (λ g. IsGroup g) gs

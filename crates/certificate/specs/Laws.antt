@@ -31,7 +31,7 @@ NotBoth = (bytes : List ℕ) (c : CertificateModel) (fault : FormatFault) → Sp
 abbrev pub OneFirstFault : Type 0
 OneFirstFault = (bytes : List ℕ) (fault fault' : FormatFault) → IsFirstFormatFault bytes fault → IsFirstFormatFault bytes fault' → fault' ≡ fault
 
--- nothing is wrong, unless they are cut off, with bytes that spell a certificate or that are cut off, and with no others
+-- bytes have no fault, except that they may be cut off, exactly where they spell a certificate or are cut off
 abbrev pub FaultlessIsSpelledOrCutOff : Type 0
 FaultlessIsSpelledOrCutOff = (bytes : List ℕ) → AreBytes bytes → HasNoFault certificate bytes ↔ (((c : CertificateModel) × Spells c bytes) ⊎ IsFirstFormatFault bytes Truncated)
 
@@ -39,21 +39,22 @@ FaultlessIsSpelledOrCutOff = (bytes : List ℕ) → AreBytes bytes → HasNoFaul
 abbrev pub Begins : List ℕ → List ℕ → Type 0
 Begins text before = (after : List ℕ) × (text ≡ before ++ after)
 
--- before a faulty group stands a certificate's beginning, but for the number of groups, of which more are announced than stand there; and with faulty tiles, their number
+-- the bytes before a faulty group are the heading of a certificate that announces more groups than it has; where the tiles are faulty, their
+-- number follows
 pub record AnnouncesGroups (c : CertificateModel) (before : List ℕ) : Type 0 where
   pub count : ℕ
   pub more : length c.groups.groups < count
   pub few : count ≤ 24
   pub is : (before ≡ heading count c) ⊎ ((size : ℕ) × (0 < size) × (size ≤ 24) × (before ≡ heading count c ++ size ∷ []))
 
--- before a faulty row stands a spelling, but for the number of rows, of which more are announced than stand there
+-- the bytes before a faulty row are a spelling that announces more rows than it has
 pub record AnnouncesRows (c : CertificateModel) (before : List ℕ) : Type 0 where
   pub count : ℕ
   pub more : length c.rows < count
   pub few : count < 2 ^ 64
   pub is : before ≡ announcement count c
 
--- What stands before the faulty field is the beginning of some spelling, or announces groups or rows.
+-- The bytes before the faulty field begin some spelling, or announce more groups or rows than are there.
 abbrev pub FaultsComeFirst : Type 0
 FaultsComeFirst =
     (bytes : List ℕ) (fault : FormatFault) (from : List ℕ) → AreBytes bytes → IsFaultAt bytes fault from
@@ -71,7 +72,8 @@ OneCertificate = (c d : CertificateModel) (bytes : List ℕ) → Spells c bytes 
 abbrev pub OneSpelling : Type 0
 OneSpelling = (c : CertificateModel) (bytes bytes' : List ℕ) → Spells c bytes → Spells c bytes' → bytes' ≡ bytes
 
--- what an answer tells of the bytes that were taken: they spell the certificate, or have this first fault; or have none, unless they are cut off
+-- what an answer says of the bytes that were taken: they spell the certificate, or have this first fault, or have none, except that they may
+-- be cut off
 abbrev pub TellsOfBytes : Result CertificateModel ReadFault → List ℕ → Type 0
 TellsOfBytes (Ok c) bytes = Spells c bytes
 TellsOfBytes (Err (Format fault)) bytes = IsFirstFormatFault bytes fault
@@ -87,7 +89,8 @@ AnswersTellOfBytes =
     → ReadsCertificate source result
     → TellsOfBytes result bytes
 
--- a fault shows with the last byte that was taken: bytes that are cut off are all that were left, and before the last byte that shows another fault nothing is wrong, unless they are cut off there
+-- A fault shows with the last byte that was taken. Bytes that are cut off are all that were left. For another fault, the bytes before the last
+-- one have no fault, except that they may be cut off.
 abbrev pub FaultsShowLast : Type 0
 FaultsShowLast =
     (source : Change SourceState) (fault : FormatFault) (bytes left : List ℕ)

@@ -140,7 +140,7 @@ weights_in grid text = if list_all (λ weight. nat_lt 0 weight) text && (cost_ki
 abbrev pub grid_with : ℕ → ℕ → ShapeModel
 grid_with rows cols = record { rows = rows; cols = cols }
 
--- kind 0 is unit cost, kind 1 face cost; of kind 2 the weights follow
+-- kind 0 is unit cost, kind 1 face cost; for kind 2 the weights follow
 abbrev pub costs_of : ShapeModel → ℕ → Reader WeightsModel
 costs_of grid zero = give (unit_rule grid)
 costs_of grid (suc zero) = give (face_rule grid)
@@ -170,7 +170,7 @@ group grid before = do
   n ← byte_within 1 24
   tiles grid before n
 
--- so many groups, after those before them
+-- n groups, after those before them
 unfoldable pub groups : ShapeModel → List GroupModel → ℕ → Reader (List GroupModel)
 groups grid before zero = give []
 groups grid before (suc n) = do
@@ -206,7 +206,7 @@ claimed (suc claim) = do
   bound ← number_within GREATEST_BOUND
   give (bound, None)
 
--- whether the board may stand in the row after this one, if there is one: boards of a grid have their keys in the order of their lists of tiles
+-- whether the board may be in the row after that of `before`, if there is one: keys of a grid's boards are in the order of their lists of tiles
 abbrev pub may_follow : Option BoardModel → BoardModel → Bool
 may_follow None b = true
 may_follow (Some before) b = nat_lt (key_of before) (key_of b)
@@ -214,7 +214,7 @@ may_follow (Some before) b = nat_lt (key_of before) (key_of b)
 unfoldable pub row_order : Option BoardModel → BoardModel × ℕ → Reader (BoardModel × ℕ)
 row_order before row bytes = if may_follow before row.0 then Ok (row, bytes) else Err (NotRising, bytes)
 
--- a row is at fault as a whole, and its order is judged last
+-- a row is read as one field, and its order is judged last
 unfoldable pub row : ShapeModel → Option BoardModel → Reader (BoardModel × ℕ)
 row grid before = as_one (do
   b ← board grid
@@ -265,15 +265,15 @@ certificate = do
 abbrev pub IsFaultOf : {X : Type 0} → Reader X → List ℕ → FormatFault → Type 0
 IsFaultOf reader bytes fault = (from : List ℕ) × (reader bytes ≡ Err (fault, from))
 
--- nothing is wrong with the bytes but that they are cut off within what is read
+-- the fault of the bytes is that they are cut off within what is read
 abbrev pub IsCutOff : {X : Type 0} → Reader X → List ℕ → Type 0
 IsCutOff reader bytes = IsFaultOf reader bytes Truncated
 
--- nothing is wrong with the bytes, unless they are cut off
+-- the bytes have no fault, except that they may be cut off
 abbrev pub HasNoFault : {X : Type 0} → Reader X → List ℕ → Type 0
 HasNoFault reader bytes = (fault : FormatFault) → IsFaultOf reader bytes fault → fault ≡ Truncated
 
--- this is the first fault of the bytes, in a field or a row with which these of them begin
+-- this is the first fault of the bytes, and `from` is what they have from the faulty field or row on
 abbrev pub IsFaultAt : List ℕ → FormatFault → List ℕ → Type 0
 IsFaultAt bytes fault from = certificate bytes ≡ Err (fault, from)
 

@@ -11,7 +11,7 @@ use Rattle.certificate.specs.Certificates.{CertificateModel}
 use Rattle.certificate.specs.Spellings.{Spells, spelling}
 use Rattle.certificate.specs.Readings.{Reader, IsFaultOf, IsCutOff, HasNoFault, IsFirstFormatFault, certificate}
 
--- what a fault of the bytes says; a failure of the source and a want of memory say nothing of them
+-- the property holds of a fault of the bytes; where the source failed or memory was refused, nothing is said
 abbrev pub IfFormat : ReadFault → (FormatFault → Type 0) → Type 0
 IfFormat (Format fault) P = P fault
 IfFormat Failed P = ⊤
@@ -47,18 +47,20 @@ pub record Finds {X : Type 0} (IsText : X → List ℕ → Type 0) (source : Cha
   pub taken : Takes source text
   pub on : ReadsOn source
 
--- The fault of the bytes that were taken is shown by them, and by no fewer: by the end, where they are all of the input and are cut off, and else by the last of them, before which no fault stands.
+-- The bytes that were taken show the fault, and no fewer do. Where the fault is that they are cut off, they are all of the input. Else the
+-- last byte shows it, and the bytes before that one are sound.
 pub record IsShown (IsSound : List ℕ → Type 0) (source : Change SourceState) (seen : List ℕ) (fault : FormatFault) : Type 0 where
   pub at_end : fault ≡ Truncated → IfSome source.before.left (λ input. input ≡ seen)
   pub at_byte : fault ≢ Truncated → (before : List ℕ) × (byte : ℕ) × (seen ≡ before ++ byte ∷ []) × IsSound before
 
--- Where reading stops: at the byte that shows a fault, and for a failure of the source or a want of memory where no fault stands in what was taken.
+-- Where reading stops: where a fault shows. Where the source failed or memory was refused, the bytes that were taken are sound.
 abbrev pub StopsAt : (List ℕ → Type 0) → Change SourceState → List ℕ → ReadFault → Type 0
 StopsAt IsSound source seen (Format fault) = IsShown IsSound source seen fault
 StopsAt IsSound source seen Failed = IsSound seen
 StopsAt IsSound source seen (NoMemory refused) = IsSound seen
 
--- Some of the bytes were taken, as far as the fault shows; and a fault of the bytes is the first of them, and of all that were left. It is a failure exactly where the source has failed.
+-- Some of the bytes were taken, as far as the fault shows. A fault of the bytes is the first in them, and in all that were left. The fault is
+-- a failure exactly where the source has failed.
 pub record RefusesAt {X : Type 0} (reader : Reader X) (IsSound : List ℕ → Type 0) (source : Change SourceState) (fault : ReadFault) : Type 0 where
   pub seen : List ℕ
   pub taken : Takes source seen
@@ -94,28 +96,30 @@ ReadsAll reader IsText source (Err fault) = RefusesAtEnd reader source fault
 
 -- ---- a certificate
 
--- what an answer says of the input: the certificate that it spells, or its first fault; a failure of the source and a want of memory say nothing of it
+-- what an answer says of the input: it spells the certificate, or has this first fault; where the source failed or memory was refused, nothing
 abbrev pub TellsOfInput : Result CertificateModel ReadFault → List ℕ → Type 0
 TellsOfInput (Ok c) input = Spells c input
 TellsOfInput (Err fault) input = IfFormat fault (λ f. IsFirstFormatFault input f)
 
--- this is answered, but for a failure of the source or a want of memory
+-- this is the result, unless the source failed or memory was refused
 abbrev pub AnswersOrLacks : Result CertificateModel ReadFault → Result CertificateModel ReadFault → Type 0
 AnswersOrLacks result answer = (result ≡ answer) ⊎ (result ≡ Err Failed) ⊎ ((refused : OutOfMemory) × (result ≡ Err (NoMemory refused)))
 
--- an input that spells a certificate is answered by it, and one with a first fault by that
+-- an input that spells a certificate is answered by it, and one with a first fault by that, unless the source failed or memory was refused
 pub record IsAnswerTo (result : Result CertificateModel ReadFault) (input : List ℕ) : Type 0 where
   pub spelled : (c : CertificateModel) → Spells c input → AnswersOrLacks result (Ok c)
   pub faulty : (fault : FormatFault) → IsFirstFormatFault input fault → AnswersOrLacks result (Err (Format fault))
 
--- No more is taken of the source than shows the fault: a fault of the bytes is their first and shows with the last that was taken, or at the end; and a source fails, or memory is wanting, where no fault stands in what was taken.
+-- No more is taken of the source than shows the fault. A fault of the bytes is their first, and shows with the last byte taken or at the end.
+-- Where the source failed or memory was refused, the bytes that were taken have no fault, except that they may be cut off.
 pub record StopsAtFault (source : Change SourceState) (fault : ReadFault) : Type 0 where
   pub seen : List ℕ
   pub taken : Takes source seen
   pub is : IfFormat fault (λ f. IsFirstFormatFault seen f)
   pub stops : StopsAt (λ bytes. HasNoFault certificate bytes) source seen fault
 
--- A certificate is read: the answer tells of the input, it is a failure exactly where the source has failed, and no more is taken than the spelling or than shows the fault.
+-- A certificate is read. The answer tells of the input, and it is a failure exactly where the source has failed. No more is taken than the
+-- spelling, or than shows the fault.
 pub record ReadsCertificate (source : Change SourceState) (result : Result CertificateModel ReadFault) : Type 0 where
   pub tells : IfSome source.before.left (TellsOfInput result)
   pub answer : IfSome source.before.left (IsAnswerTo result)

@@ -16,7 +16,7 @@ use Rattle.certificate.specs.Certificates.{CertificateModel, IsCertificate}
 abbrev pub cost_kind_of : WeightsModel → ℕ
 cost_kind_of costs = if rule_eq costs (unit_rule costs.grid) then 0 else if rule_eq costs (face_rule costs.grid) then 1 else 2
 
--- what follows the kind: of kind 2 the weights of tiles 1, 2, .. in order
+-- what follows the kind: for kind 2 the weights of tiles 1, 2, .. in order
 abbrev pub weights_text : ℕ → WeightsModel → List ℕ
 weights_text zero costs = []
 weights_text (suc zero) costs = []
@@ -27,12 +27,12 @@ abbrev pub claim_of : Option (List Move) → ℕ
 claim_of (Some plan) = 0
 claim_of None = 1
 
--- the eight bytes that tell the version
+-- the eight bytes that say the version
 abbrev pub version_text : Version → List ℕ
 version_text One = codes "TILECRT1"
 version_text Two = codes "TILECRT2"
 
--- of version 2 a byte says what is claimed
+-- in version 2 a byte says what is claimed
 abbrev pub claim_text : Version → ℕ → List ℕ
 claim_text One claim = []
 claim_text Two claim = claim ∷ []
@@ -70,7 +70,7 @@ claimed_text bound None = number_text bound
 abbrev pub row_text : BoardModel × ℕ → List ℕ
 row_text row = row.0.tiles ++ number_text row.1
 
--- all before the boards, but for the number of groups, which is given
+-- all before the boards, with `count` as the number of groups
 abbrev pub heading : ℕ → CertificateModel → List ℕ
 heading count c = beginning_text c.version (claim_of c.plan) ++ (opening_text c.costs ++ (count ∷ flat_map group_text c.groups.groups))
 
@@ -86,7 +86,7 @@ body_text c = c.start.tiles ++ (c.goal.tiles ++ claimed_text c.cost c.plan)
 abbrev pub front_text : CertificateModel → List ℕ
 front_text c = beginning_text c.version (claim_of c.plan) ++ (opening_text c.costs ++ (groups_text c.groups.groups ++ body_text c))
 
--- the spelling, but for the number of rows, which is given
+-- the spelling, with `count` as the number of rows
 abbrev pub announcement : ℕ → CertificateModel → List ℕ
 announcement count c = front_text c ++ (count_text count ++ flat_map row_text c.rows)
 

@@ -66,10 +66,13 @@ pub struct Parts {
     pub rows: Vec<(Board, u32)>,
 }
 
-/// An answer that any program can check. It has a spelling: a bound is claimed in version 2 only, the
-/// costs, the groups and all boards are of one shape, no cost is above `GREATEST_COST` and the plan is
-/// no longer than that, no bound is above `GREATEST_BOUND`, and the rows rise by their lists of
-/// tiles.
+/// An answer that any program can check. It has a spelling:
+///
+/// - A bound is claimed in version 2 only.
+/// - The costs, the groups and all boards are of one shape.
+/// - No cost is above `GREATEST_COST`, and the plan has no more moves than that.
+/// - No bound is above `GREATEST_BOUND`.
+/// - The rows rise by their lists of tiles.
 #[derive(Debug, Drop)]
 pub struct Certificate {
     parts: Parts,
@@ -86,9 +89,12 @@ impl Model for Certificate {
 }
 
 impl Certificate {
-    /// The certificate with these fields, or None where they have no spelling: shapes that differ,
-    /// a cost or a plan's length above `GREATEST_COST`, a bound above `GREATEST_BOUND` or in version
-    /// 1, or rows of which one does not come after the row before it.
+    /// The certificate with these fields, or None where they have no spelling:
+    ///
+    /// - Shapes differ.
+    /// - A cost or the plan's length is above `GREATEST_COST`.
+    /// - A bound is above `GREATEST_BOUND`, or it is claimed in version 1.
+    /// - A row does not come after the row before it.
     pub fn new(parts: Parts) -> Option<Self>
         ensures accepted { IsSome result ↔ IsCertificate (statement_of parts) }
         ensures value { IfSome result (λ c. c ≡ statement_of parts) }

@@ -44,7 +44,7 @@ pub(crate) fn fill<S: Source>(source: &mut S, text: &mut [u8]) -> Result<(), Rea
     Ok(())
 }
 
-// The eight bytes that each certificate begins with, which tell its version.
+// The eight bytes that each certificate begins with, which say its version.
 pub(crate) fn read_version<S: Source>(source: &mut S) -> Result<Version, ReadFault>
     ensures { ReadsField version SpellsVersion (change S.state source.old source.new) result }
 {
@@ -56,7 +56,7 @@ pub(crate) fn read_version<S: Source>(source: &mut S) -> Result<Version, ReadFau
     }
 }
 
-// The version that eight bytes tell.
+// The version that eight bytes say.
 fn version_from(text: &[u8; 8]) -> Option<Version>
     ensures { result ≡ version_in text.now }
 {
@@ -120,7 +120,7 @@ pub(crate) fn read_count<S: Source>(source: &mut S) -> Result<u64, ReadFault>
     Ok(count_from(text))
 }
 
-// The weights of tiles 1, 2, .. in order, which no kind tells.
+// The weights of tiles 1, 2, .. in order, which are neither unit nor face costs.
 pub(crate) fn read_weights<S: Source>(source: &mut S, shape: Shape) -> Result<Weights, ReadFault>
     ensures { ReadsField (costs_of shape 2) (SpellsCosts shape 2)
         (change S.state source.old source.new) result }
@@ -134,7 +134,7 @@ pub(crate) fn read_weights<S: Source>(source: &mut S, shape: Shape) -> Result<We
     }
 }
 
-// The costs of these weights, where no kind tells them.
+// The costs of these weights, where they are neither unit nor face costs.
 fn listed_costs(shape: Shape, listed: &[u8]) -> Option<Weights>
     requires shape { IsShape shape }
     requires count { length listed.now ≡ cell_count shape - 1 }
@@ -176,8 +176,8 @@ pub(crate) fn read_letter<S: Source>(source: &mut S) -> Result<Move, ReadFault>
 }
 
 // A row, which comes after the one with this board, if there is one. Its order is judged last. Its
-// place in the list is made when its board is there and its cost is due, so that a want of memory
-// hides no fault.
+// place in the list is made when its board is there and its cost is due, so that no refusal of
+// memory hides a fault.
 pub(crate) fn read_row<S: Source>(
     source: &mut S,
     shape: Shape,

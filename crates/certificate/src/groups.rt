@@ -31,8 +31,8 @@ pub(crate) fn read_all_groups<S: Source>(
     Ok(Partition::new(shape, groups).unwrap())
 }
 
-// So many groups, of which no two share a tile. The place of each is made while it is due, so that
-// a want of memory hides no fault.
+// `count` groups that share no tile with one another. The place of each is made while it is due, so
+// that no refusal of memory hides a fault.
 fn read_groups<S: Source>(
     alloc: Global,
     source: &mut S,
@@ -65,7 +65,7 @@ fn read_group<S: Source>(source: &mut S, shape: Shape, before: &[Group]) -> Resu
     read_tiles(source, shape, before, count)
 }
 
-// So many tiles of a group, which are in none of the groups before it.
+// The group of the next `count` tiles, which are in none of the groups before it.
 fn read_tiles<S: Source>(
     source: &mut S,
     shape: Shape,

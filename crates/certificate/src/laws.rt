@@ -5,8 +5,8 @@ ghost use Rattle.certificate.specs.Laws.{OneFirstFault, FaultsComeFirst, NoneBeg
 ghost use Rattle.certificate.specs.Laws.{OneCertificate, OneSpelling, AnswersTellOfBytes};
 ghost use Rattle.certificate.specs.Laws.{FaultlessIsSpelledOrCutOff, FaultsShowLast};
 
-/// A certificate is read exactly where the bytes spell it. Else they have one first fault. Nothing is
-/// wrong with bytes that spell one or are cut off, and with no others.
+/// A certificate is read exactly where the bytes spell it. Else they have one first fault. Bytes
+/// have no fault, except that they may be cut off, exactly where they spell one or are cut off.
 #[tactic(auto, using(crate::proofs::CertificateLemmas::read_takes, crate::proofs::LawLemmas::spelled_read, crate::proofs::LawLemmas::spelled_or_faulty, crate::proofs::LawLemmas::not_both, crate::proofs::LawLemmas::faultless))]
 pub fn reading_is_spelling()
     ensures both_ways { ReadingIsSpelling }
@@ -16,7 +16,8 @@ pub fn reading_is_spelling()
     ensures faultless { FaultlessIsSpelledOrCutOff }
 {}
 
-/// What stands before the first fault is the beginning of some spelling.
+/// The bytes before the first faulty field begin some spelling, or they announce more groups or
+/// rows than are there.
 #[tactic(auto, using(crate::proofs::CertificateLemmas::before_fault))]
 pub fn faults_come_first()
     ensures { FaultsComeFirst }

@@ -36,7 +36,7 @@ fn read_beginning<S: Source>(source: &mut S) -> Result<(Version, u8), ReadFault>
     Ok((version, claim))
 }
 
-// What is claimed: of version 2 a byte says it.
+// What is claimed: in version 2 a byte says it.
 fn read_claim<S: Source>(source: &mut S, version: Version) -> Result<u8, ReadFault>
     requires fine { (S.state source.old).has_failed ≡ false }
     ensures { ReadsField (claim version) (SpellsClaim version)
@@ -59,7 +59,7 @@ fn read_opening<S: Source>(source: &mut S) -> Result<Weights, ReadFault>
     read_costs(source, shape, kind)
 }
 
-// Unit costs for kind 0, face costs for kind 1; of kind 2 the weights are read.
+// Unit costs for kind 0, face costs for kind 1; for kind 2 the weights are read.
 fn read_costs<S: Source>(source: &mut S, shape: Shape, kind: u8) -> Result<Weights, ReadFault>
     requires fine { (S.state source.old).has_failed ≡ false }
     requires shape { IsShape shape }
@@ -83,8 +83,8 @@ fn read_plan<S: Source>(alloc: Global, source: &mut S) -> Result<Vec<Move>, Read
     read_letters(alloc, source, count)
 }
 
-// So many letters of moves. The place of each is made while it is due, so that a want of memory
-// hides no fault.
+// `count` letters of moves. The place of each is made while it is due, so that no refusal of memory
+// hides a fault.
 fn read_letters<S: Source>(
     alloc: Global,
     source: &mut S,
@@ -105,7 +105,7 @@ fn read_letters<S: Source>(
     Ok(moves)
 }
 
-// So many rows, each after the one before it.
+// `count` rows, each after the one before it.
 fn read_rows<S: Source>(
     alloc: Global,
     source: &mut S,
@@ -207,10 +207,11 @@ fn read_all<S: Source>(alloc: Global, source: &mut S) -> Result<Certificate, Rea
 }
 
 /// Reads a certificate, from front to back and up to its first fault: F1 to F5, F6 where the source
-/// fails, F7 for want of memory. Memory is taken for the groups, moves and rows that are there and
-/// for one that is due, and not by their stated numbers. After a fault of the bytes the source has given
-/// them up to and with the one that shows it; it fails, and memory is wanting, only where none
-/// stands in what it gave.
+/// fails, F7 where memory is refused.
+///
+/// Memory is taken for the groups, moves and rows that are there and for one that is due, and not
+/// by their stated numbers. After a fault of the bytes the source has given them up to and with the
+/// one that shows it. F6 and F7 are answered only where the bytes that were given have no fault.
 pub fn read<S: Source>(alloc: Global, source: &mut S) -> Result<Certificate, ReadFault>
     ensures { ReadsCertificate (change S.state source.old source.new) result }
 {

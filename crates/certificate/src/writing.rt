@@ -104,7 +104,7 @@ fn write_opening<K: Sink>(sink: &mut K, costs: &Weights) -> Result<(), WriteFail
     sink.put(weights_behind(costs))
 }
 
-// The weights of tiles 1, 2, .., which stand behind the kind where it does not tell them.
+// The weights of tiles 1, 2, .., which follow kind 2; other kinds have none behind them.
 fn weights_behind(costs: &Weights) -> &[u8]
     ensures { result.now ≡ weights_text (cost_kind_of costs.now) costs.now }
 {

@@ -104,7 +104,7 @@ one_row c is b p q (g, at) (g', at') =
     ⊎_elim (λ (l : q < p). let low = keys_rise c is q p d l p_in in absurd (omega (arith, low, key, key'))) (λ (l : p < q). let low = keys_rise c is p q d l q_in in absurd (omega (arith, low, key, key'))) o)
     (cases_order q p)
 
--- where the rows before a place have lower keys, and those from it on have not, a board's row stands at that place
+-- a board's row is at the first place from which on no row's key is below the board's
 found_there : (c : CertificateModel) → IsCertificate c → (b : BoardModel) (place : ℕ) → IsPartitionPoint (λ row. row_key row < key_of b) (λ row. key_of b ≤ row_key row) c.rows place → (p : ℕ) → HasRowAt c b p → p ≡ place
 found_there c is b place parted p has =
     let d : BoardModel × ℕ = (b, has.0) in
@@ -137,7 +137,7 @@ has_row_here c b rows place row same within is board =
 pub row_here_at : (c : CertificateModel) (rows : Rows) (place : ℕ) (row : BoardModel × ℕ) → rows ≡ c.rows → place < length rows → row ≡ get_or rows place row → slice_get c.rows place ≡ Some row
 row_here_at c rows place row same within is = subst (λ (rs : Rows). slice_get rs place ≡ Some row) same (slice_get-get_or rows place row within ∙ ap Some (sym is))
 
--- at the place of a board's row stands that board
+-- the row at the place of a board's row is one of that board
 pub board_there : (c : CertificateModel) (b : BoardModel) (rows : Rows) (place : ℕ) (d : BoardModel × ℕ) → rows ≡ c.rows → HasRowAt c b place → (get_or rows place d).0 ≡ b
 board_there c b rows place d same (g, at) = ap (λ (rs : Rows). (get_or rs place d).0) same ∙ ap (λ (row : BoardModel × ℕ). row.0) (get_or_from_slice_get c.rows place (b, g) d at)
 
@@ -212,7 +212,7 @@ lower_up_to rows key place e found sorted within is low k d less =
     let below = sorted k place d (omega (arith, less)) within in
     omega (arith, here, below, low, is)
 
--- where a row's key is not lower, nor are those behind it
+-- where a row's key is not lower, those behind it are not lower either
 pub not_lower_from : (rows : Rows) (key place : ℕ) (e : BoardModel × ℕ) (found : ℕ) → IsNonDecreasingBy row_key rows → found ≡ row_key (get_or rows place e) → key ≤ found → AreNotLower rows key place
 not_lower_from rows key place e found sorted is high k d from within =
     let here : row_key (get_or rows place e) ≡ row_key (get_or rows place d) = ap row_key (get_or_default rows place e d (omega (arith, from, within))) in
@@ -243,9 +243,9 @@ folded_below table fold b is board group sides =
 
 -- ---- Boards that the successors of rows leave open, row by row and block by block.
 
--- ---- boards that the successors of rows leave open: what is told of a successor
+-- ---- boards that the successors of rows leave open: what is known of a successor
 
--- what is told of the board that a move leads to: its key, the cost of the move, and its sum
+-- what is known of the board that a move leads to: its key, the cost of the move, and its sum
 pub record Reaches (rule : WeightsModel) (t : BoundModel) (b : BoardModel) (m : Move) (told : Successor) : Type 0 where
   pub next : BoardModel
   pub moves : Moves rule b m next told.cost
@@ -304,7 +304,7 @@ opens_not c t row m next k moves high = (
 pub opens_never : (c : CertificateModel) (t : BoundModel) (row : BoardModel × ℕ) (m : Move) → ((next : BoardModel) (k : ℕ) → Moves c.costs row.0 m next k → ⊥) → IsTrue false ↔ LeavesOpen c t row m
 opens_never c t row m edge = ((λ e. absurd (true≢false (sym e))), (λ o. absurd (edge o.0 o.1 o.2)))
 
--- ---- by what is told of a successor
+-- ---- by what is known of a successor
 
 pub leaves_none : (c : CertificateModel) (t : BoundModel) (row : BoardModel × ℕ) (m : Move) → IsBoardOf c.grid row.0 → IsTold c.costs t row.0 m None → IsTrue false ↔ LeavesOpen c t row m
 leaves_none c t row m is told = opens_never c t row m (reaches_none c.costs t row.0 m is.board told)
@@ -321,7 +321,7 @@ leaves_by c t row m told cost is by same low has test =
     let sum = r.sum in
     opens c t row m r.next told.cost r.moves (omega (arith, low, same, sum)) has (test r.next (reached_board c.grid c.costs row.0 m r.next told.cost is r.moves) r.key)
 
--- what is told of the four moves, each at its place
+-- what is known of the successors by the four moves, each at its place
 told_of_all : (rule : WeightsModel) (t : BoundModel) (b : BoardModel) (i : ℕ) → i < 4 → IsTold rule t b (get_or all_moves i U) (get_or (successors_of rule (parts_of t) b) i None)
 told_of_all rule t b zero low = refl
 told_of_all rule t b (suc zero) low = refl
@@ -385,7 +385,7 @@ pub not_closed_there : (c : CertificateModel) (t : BoundModel) (from end place :
 not_closed_there c t from end place low less None opened some closed = true≢false (sym some)
 not_closed_there c t from end place low less (Some m) opened some closed = closed place m low less opened
 
--- all rows are closed where those are that there are
+-- where all rows are closed, no row leaves a board open
 pub all_closed : (c : CertificateModel) (t : BoundModel) (end : ℕ) → length c.rows ≤ end → AreClosed c t 0 end → (place : ℕ) (m : Move) → LeavesOpenAt c t place m → ⊥
 all_closed c t end all closed place m o = let within = slice_get_within c.rows place o.0 o.1 in closed place m (omega arith) (omega (arith, within, all)) o
 
@@ -399,7 +399,7 @@ closed_less c t from end further all closed p m low less o = closed p m low (ome
 
 -- ---- blocks of rows that leave no board open: the first place at which a test doesn't fail
 
--- where P holds of the places from a on that come before the one found, or of so many where none is
+-- P holds of the places from a on: of those before the one found, or of the next n where none is found
 abbrev HoldsBefore : (ℕ → Type 0) → ℕ → ℕ → Option ℕ → Type 0
 HoldsBefore P a n None = (k : ℕ) → a ≤ k → k < a + n → P k
 HoldsBefore P a n (Some i) = (a ≤ i) × (i < a + n) × ((k : ℕ) → a ≤ k → k < i → P k)
@@ -424,7 +424,7 @@ holds_before P a (suc n) [] answers = absurd answers
 holds_before P a (suc n) (true ∷ bs) answers = (omega arith, omega arith, λ k low high. absurd (omega arith))
 holds_before P a (suc n) (false ∷ bs) answers = one_before P a n (answers.0 refl) (slice_get (filter_by_mask (range_with_len (a + 1) n) bs) 0) (holds_before P (a + 1) n bs answers.1)
 
--- where P holds of the places below the one found, or below n where none is
+-- P holds of the places below the one found, or of those below n where none is found
 abbrev pub HoldsBelow : (ℕ → Type 0) → ℕ → Option ℕ → Type 0
 HoldsBelow P n None = (k : ℕ) → k < n → P k
 HoldsBelow P n (Some i) = (i < n) × ((k : ℕ) → k < i → P k)
@@ -451,7 +451,7 @@ closed_blocks c t (suc n) all p m low less =
     (λ (le : n * BLOCK_ROWS ≤ p). all n (omega arith) p m le (omega (arith, less)))
     (cases_lt p (n * BLOCK_ROWS))
 
--- all rows are in so many blocks
+-- where each of these blocks is closed, all rows are: each row is in one of them
 pub closed_by_blocks : (c : CertificateModel) (t : BoundModel) → ((k : ℕ) → k < length c.rows / BLOCK_ROWS + 1 → IsClosedBlock c t k) → AreClosed c t 0 (length c.rows)
 closed_by_blocks c t all =
     let most = lt-div-mul-add {a = length c.rows} {b = BLOCK_ROWS} (omega arith) in
@@ -461,7 +461,7 @@ closed_by_blocks c t all =
 pub begins_within : (count block : ℕ) → block < count / BLOCK_ROWS + 1 → block * BLOCK_ROWS ≤ count
 begins_within count block low = (le-div_iff_mul-le {k = BLOCK_ROWS} {x = block} {y = count} (omega arith)).0 (omega (arith, low))
 
--- the rows of a block are closed where those are that there are
+-- a block is closed where the rows that it has are closed
 closed_rows : (c : CertificateModel) (t : BoundModel) (block count : ℕ) → count ≡ BLOCK_ROWS ⊎ (length c.rows ≤ block * BLOCK_ROWS + count) → count ≤ BLOCK_ROWS → AreClosed c t (block * BLOCK_ROWS) (block * BLOCK_ROWS + count) ↔ IsClosedBlock c t block
 closed_rows c t block count full few = (
   (λ closed.

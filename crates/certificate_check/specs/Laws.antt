@@ -29,7 +29,7 @@ FoldedTablesAreRefused = (c : CertificateModel) (tables : BoundModel) → ItsPla
 abbrev pub TablesOfAnotherShapeAreRefused : Type 0
 TablesOfAnotherShapeAreRefused = (c : CertificateModel) (tables : BoundModel) → ItsPlanLeads c → c.groups.grid ≢ tables.split.grid → IsFirstRefusal c tables (UnfitGroup 0)
 
--- a certificate is proved with tables of which none is folded
+-- where a certificate is proved, no table is folded
 abbrev pub ProvedWithWholeTables : Type 0
 ProvedWithWholeTables = (c : CertificateModel) (tables : BoundModel) → IsProved c tables → tables.folds ≡ []
 

@@ -21,7 +21,7 @@ pub(crate) fn check_up_to_rows(certificate: &Certificate, bound: &Bound) -> Resu
     ensures judged { IsJudgedUpToRows certificate.now bound.now result }
     ensures certificate { IsCertificate certificate.now }
 {
-    // What holds of every certificate, as that its rows rise, is told by this call.
+    // The contract of this call says what holds of every certificate, such as that its rows rise.
     let _ = certificate.shape();
     if let Err(refusal) = check_plan(certificate) {
         return Err(refusal);
@@ -75,8 +75,8 @@ pub(crate) fn conclude(
         ¬ LeavesOpenAt certificate.now bound.now place m }
     ensures { IsVerdict certificate.now bound.now result }
 {
-    // What holds of every certificate and of every bound is told by these calls, and that sums of
-    // potentials are lower bounds is the law.
+    // The contracts of the first two calls say what holds of every certificate and of every bound.
+    // The last call is the law that sums of potentials are lower bounds.
     let _ = certificate.shape();
     let _ = bound.partition();
     sums_are_lower_bounds();

@@ -42,8 +42,8 @@ fn is_of_shape(certificate: &Certificate, bound: &Bound) -> bool
     certificate.groups().shape() == bound.partition().shape()
 }
 
-// The table at a place; None where it is folded, since whoever checks a certificate knows no table
-// that it may have been folded from, or where there is none.
+// The table at a place; None where there is none, or where it is folded, since the checker knows
+// no table that it may have been folded from.
 fn whole_table(bound: &Bound, place: usize) -> Option<&Table>
     ensures table { MatchOption result (slice_get bound.now.lookups place ≡ None)
         (λ table. slice_get bound.now.lookups place ≡ Some table.now) }

@@ -17,8 +17,8 @@ pub fn refusals_are_compared(a: Refusal, b: Refusal) -> bool
     a == b
 }
 
-/// A claimed plan is judged before all else: by its first illegal move (C1), else by the board where
-/// it ends (C2), else by its cost (C3).
+/// A claimed plan is judged before all else: by its first illegal move (C1), else by the board
+/// where it ends (C2), else by its cost (C3).
 pub fn plans_are_judged_first()
     ensures illegal { IllegalMovesAreRefusedFirst }
     ensures end { OtherEndsAreRefusedFirst }

@@ -1,4 +1,4 @@
-//! The checker of certificates: what it accepts is least, whoever made the certificate.
+//! The checker of certificates: what an accepted certificate claims is true, whoever made it.
 //!
 //! - `check` and `check_parallel` answer Ok exactly where `IsProved`, else the first refusal
 //!   (`IsFirstRefusal`). Neither takes memory.

@@ -7,8 +7,8 @@ ghost use Rattle.certificate_check.specs.Lookups.{AreLower, AreNotLower};
 
 use board::Board;
 
-// The first place from which on no key is below this one. It is looked for from a place on that is
-// near it, by steps that double, so the nearer it is the less is looked at.
+// The first place from which on no key is below this one. The search begins at `near` and doubles
+// its steps, so the nearer the place is, the fewer rows are looked at.
 pub(crate) fn first_from(rows: &[(Board, u32)], key: u128, near: usize) -> usize
     requires { IsNonDecreasingBy (λ row. key_of row.0) rows.now }
     ensures { IsPartitionPoint (λ row. key_of row.0 < key) (λ row. key ≤ key_of row.0)

@@ -14,12 +14,12 @@ use rayon::prelude::*;
 use std::sync::atomic::{AtomicU64, Ordering};
 use std::thread::Threads;
 
-// So many rows are looked at by one call in a thread: few enough that all threads are busy, and so
-// many that the calls cost nothing beside the rows.
+// How many rows one call in a thread looks at. They are few enough to keep all threads busy, and
+// enough that the calls cost nothing beside the rows.
 const BLOCK_ROWS: usize = 4_096;
 
-// The first open successor of a row, as `find_open` finds it. Threads look at blocks of rows; from
-// the first block on that isn't known to leave no board open, `find_open` goes on.
+// The first open successor of a row, as `find_open` finds it. Threads look at blocks of rows.
+// `find_open` goes on from the first block that isn't known to leave no board open.
 pub(crate) fn find_open_parallel(
     rt: &(impl Threads + Sync),
     certificate: &Certificate,
@@ -63,10 +63,10 @@ fn closed_up_to(rt: &(impl Threads + Sync), certificate: &Certificate, bound: &B
     }
 }
 
-// False only where the rows of a block leave no board open; true says nothing. It is answered where
-// they leave one open, and where one before them was seen to do so: then they aren't looked at, so
-// that a certificate that is refused is not looked at for longer than one that is accepted. What is
-// noted for that is a hint, on which no proof rests.
+// False only where the rows of a block leave no board open; true says nothing. True is answered
+// where they leave one open, and where an earlier block was seen to do so. Then the rows aren't
+// looked at, so that checking a certificate that is refused takes no longer than checking one that
+// is accepted. The noted block is a hint, on which no proof rests.
 fn may_be_open(
     certificate: &Certificate,
     bound: &Bound,

@@ -96,9 +96,9 @@ fn open_move(
     None
 }
 
-// Whether a move leads from a row to a board whose sum and the cost of going there, added up, are
-// below the stated cost, and that has no row with at most the cost of going there; by what is told
-// of that board.
+// Whether a move leaves a board open (`LeavesOpen`), by what is known of the board that it leads
+// to. The sum of such a board and the cost of going there are together below the stated cost, and
+// the board has no row with at most the cost of going there.
 fn leaves_open(
     certificate: &Certificate,
     place: usize,
@@ -126,8 +126,8 @@ fn leaves_open(
     !has_row_at(certificate, at, next.key, cost)
 }
 
-// Whether the board with a key has a row with at most this cost, by the first place from which on no
-// key is below it.
+// Whether the board with a key has a row with at most this cost. `at` is the first place from which
+// on no row's key is below that key.
 fn has_row_at(certificate: &Certificate, at: usize, key: u128, cost: u32) -> bool
     requires certificate { IsCertificate certificate.now }
     requires at { IsPartitionPoint (λ row. key_of row.0 < key) (λ row. key ≤ key_of row.0)

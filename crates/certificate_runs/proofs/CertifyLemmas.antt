@@ -238,7 +238,7 @@ pub refused_entry : (split : PartitionModel) (rules : ProofRules) (n : ℕ) (byt
 refused_entry split rules n bytes fault (Certified c) first is = absurd (no_refusal c (entry_code fault) n is)
 refused_entry split rules n bytes fault (Reported text status) first is = (refused (entry_code fault), by_fault fault first, tt, is)
 
--- a board for which memory was wanting before the first step
+-- a board for which memory was refused before the first step
 pub refused_board : (split : PartitionModel) (rules : ProofRules) (n : ℕ) (bytes id : List ℕ) (b : BoardModel) (reply : Reply) → IsEntry rules.grid bytes id b → rules.allows b None → IsRefusalReply (codes "V3") n reply → IsCertifyReply split rules (within n) bytes reply
 refused_board split rules n bytes id b (Certified c) entry lacking is = absurd (no_refusal c (codes "V3") n is)
 refused_board split rules n bytes id b (Reported text status) entry lacking is = (refused (codes "V3"), by_want id b entry lacking, tt, is)

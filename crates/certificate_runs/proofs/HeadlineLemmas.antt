@@ -132,7 +132,7 @@ one_asks n (other ∷ passed) line over here =
     let at : (n + 1) + length passed ≡ n + suc (length passed) = omega arith in
     rw (asks_not other over.0) (one_asks (n + 1) passed line over.1 here ∙ ap (λ (k : ℕ). (k, line) ∷ []) at)
 
--- ---- the answers to lines of which the last alone asks
+-- ---- the answers to lines where the last alone asks
 
 abbrev last_answer : List (List ℕ) → Answer → List Answer
 last_answer [] answer = answer ∷ []
@@ -223,7 +223,7 @@ feed_ends : (line : List ℕ) → AllByRecursion (λ b. b ≢ 10) line → lines
 feed_ends [] none = refl
 feed_ends (b ∷ bs) none = rw (ne_eqb b 10 none.0) (ap (onto_first b) (feed_ends bs none.1))
 
--- a report is read as what was told
+-- a report is read as the value that it was made of
 reply_is : (e d : Data) → IsReport e → IsReply (report_text e) 0 d → e ≡ d
 reply_is e d report (line, at, reads) =
     let text : compact_text e ≡ line = ap line_or (sym (ap (λ (ls : List (List ℕ)). slice_get ls 0) (feed_ends (compact_text e) (text_other e))) ∙ at) in
@@ -445,7 +445,7 @@ reported_lack rules line id bound best cause is =
     let answers = entry_answered rules line id (Bounded bound best cause) is in
     entry_bounded rules line id bound best cause answers.0 answers.1
 
--- of a board whose outcomes all have rows nothing is reported
+-- no ending is reported of a board whose outcomes all have rows
 none_reported : (rules : ProofRules) (line id name : List ℕ) (b : BoardModel) (ending : Ending) → Names rules.grid line id b → ((given : Outcome) → rules.allows b (Some given) → IsSome (rows_of given)) → ¬ AnswersEntry (report_rules rules) (without_return line) (answered name ending)
 none_reported rules line id name b ending names all (by_outcome other b' told entry (given, allowed, says, none) small) =
     let same = same_name rules.grid line id other b b' names (names.0, entry) in

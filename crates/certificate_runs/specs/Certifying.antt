@@ -41,7 +41,8 @@ pub record AreRulesFor (setup : SetupModel) (rules : ProofRules) : Type 0 where
   pub task : rules.task ≡ task_of_setup setup
   pub truthful : ProvesTruly rules
 
--- A certificate that answers this task with these groups. Its plan, if it claims one, leads from the start to the goal at its cost, and no plan costs less than it states. Its rows prove that with the sums of the groups' tables, whoever builds them.
+-- A certificate that answers this task with these groups. Its plan, if it claims one, leads from the start to the goal at its cost, and no
+-- plan costs less than it states. Its rows prove that with the sums of the groups' tables, whoever builds them.
 pub record IsCertificateOf (split : PartitionModel) (task : Task) (c : CertificateModel) : Type 0 where
   pub sides : c.grid ≡ task.goal.grid
   pub costs : c.costs ≡ task.rule
@@ -80,7 +81,7 @@ IsCertifiable given = IsSome (rows_of given)
 abbrev pub NamesCertifiable : ProofRules → List ℕ → Type 0
 NamesCertifiable rules bytes = (id : List ℕ) × (b : BoardModel) × (given : Outcome) × IsEntry rules.grid bytes id b × rules.allows b (Some given) × IsCertifiable given
 
--- an ending for which there is no certificate: there is no plan, or a bound stands alone, as memory was refused
+-- an ending for which there is no certificate: there is no plan, or a bound without a plan, since memory was refused
 abbrev pub IsUncertified : Ending → Type 0
 IsUncertified (Optimal cost plan) = ⊥
 IsUncertified (Unsolvable why) = ⊤
@@ -116,7 +117,7 @@ NeedsReport (answered id ending) = IsUncertified ending
 abbrev pub report_of : ℕ → Answer → Output
 report_of n answer = record { text = answer_text n answer; status = status_of_counts (with_answer no_lines answer) }
 
--- the report of a line with these bytes, as in a batch, but of an outcome without rows, where there is no certificate
+-- the report of a line with these bytes, as in a batch, where there is no certificate for the answer
 abbrev pub ReportsLine : ProofRules → Line → List ℕ → Output → Type 0
 ReportsLine rules line bytes output = (answer : Answer) × AnswersKind (report_rules rules) line.kind bytes answer × NeedsReport answer × (output ≡ report_of line.number answer)
 
@@ -129,7 +130,7 @@ abbrev pub IsCertifyReply : PartitionModel → ProofRules → Line → List ℕ 
 IsCertifyReply split rules line bytes (Certified c) = (line.kind ≡ Within) × IsCertificateFor split rules bytes c
 IsCertifyReply split rules line bytes (Reported text status) = ReportsLine rules line bytes (record { text = string_bytes text; status = status })
 
--- why there is none: memory was wanting for a report, or for the groups of a certificate
+-- why there is none: memory was refused for a report, or for the groups of a certificate
 abbrev pub HasNoReply : ProofRules → Line → List ℕ → CertifyFault → Type 0
 HasNoReply rules line bytes Read = ⊥
 HasNoReply rules line bytes Write = ⊥
@@ -184,7 +185,8 @@ CertifiesFirst split rules source output = (first : HasFirst source) × (line_ki
 abbrev pub LacksReply : ProofRules → Change SourceState → CertifyFault → Type 0
 LacksReply rules source fault = (first : HasFirst source) × HasNoReply rules (first_line source first) (without_return first.line) fault
 
--- How the run ends: all lines are passed over, and nothing is written; or the first other one is replied to. Else the line was lost, or memory was wanting, and nothing was written; or writing failed.
+-- How the run ends. All lines are passed over, and nothing is written; or the first other one is replied to. Else the line was lost, or memory
+-- was refused, and nothing was written; or writing failed.
 abbrev pub EndsReplying : PartitionModel → ProofRules → Change SourceState → Change SinkState → Result ℕ CertifyFault → Type 0
 EndsReplying split rules source sink (Ok status) =
     IsReadable source × ((PassesAll source × IsUntouched sink × (status ≡ 0)) ⊎ ((output : Output) × RepliesToFirst split rules source output × WritesAll sink output.text × (status ≡ output.status)))

@@ -26,7 +26,8 @@ abbrev pub claim_data : Option (List Move) → ℕ → Data
 claim_data (Some plan) cost = accepted_data cost
 claim_data None bound = accepted_bound_data bound
 
--- the rows prove with the sums of these tables what is claimed, so that no plan costs less, and a plan that leads at that cost is least: it is reported with the status 0
+-- The rows prove with the sums of these tables what is claimed, so that no plan costs less, and a claimed plan is least. That is reported
+-- with the status 0.
 pub record IsAccepted (c : CertificateModel) (tables : BoundModel) (output : Output) : Type 0 where
   pub proved : IsProved c tables
   pub below : NothingBelow c.costs c.start c.goal c.cost
@@ -45,7 +46,8 @@ IsJudgementBy tables c output = IsAccepted c tables output ⊎ ((refusal : Refus
 abbrev pub IsJudgement : CertificateModel → Output → Type 0
 IsJudgement c output = (tables : BoundModel) × AreBuiltFor c tables × IsJudgementBy tables c output
 
--- the verdict on what was read: a certificate is judged, and a fault of the bytes refused; there is none on a failure of the source or a want of memory
+-- the verdict on what was read: a certificate is judged, and a fault of the bytes refused; there is none where the source failed or memory
+-- was refused
 abbrev pub IsVerdictOutput : Result CertificateModel ReadFault → Output → Type 0
 IsVerdictOutput (Ok c) output = IsJudgement c output
 IsVerdictOutput (Err (Format fault)) output = IsRefusedReport (format_code fault) output
@@ -68,11 +70,12 @@ abbrev pub PutsVerdict : Change SinkState → Output → Result ℕ CheckFault �
 PutsVerdict sink output (Ok status) = WritesAll sink output.text × (status ≡ output.status)
 PutsVerdict sink output (Err fault) = FailsWriting sink output.text × (fault ≡ Write)
 
--- memory was wanting for the certificate, or for the tables of the one that was read
+-- memory was refused for the certificate, or for the tables of the one that was read
 abbrev pub WantsMemory : Result CertificateModel ReadFault → OutOfMemory → Type 0
 WantsMemory read refused = (read ≡ Err (NoMemory refused)) ⊎ ((c : CertificateModel) × (read ≡ Ok c))
 
--- How the run ends after this was read: the verdict on it is written; or writing failed, and a beginning of it is written; or memory was wanting for it, and nothing is written. Where there is none, that is what is answered.
+-- How the run ends after this was read. The verdict on it is written; or writing failed, and a beginning of it is written; or memory was
+-- refused for it, and nothing is written. Where there is no verdict, the answer says why, and nothing is written.
 abbrev pub EndsCheck : Result CertificateModel ReadFault → Change SinkState → Result ℕ CheckFault → Type 0
 EndsCheck read sink (Ok status) = (output : Output) × IsVerdictOutput read output × WritesAll sink output.text × (status ≡ output.status)
 EndsCheck read sink (Err Write) = (output : Output) × IsVerdictOutput read output × FailsWriting sink output.text

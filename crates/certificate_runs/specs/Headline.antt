@@ -35,12 +35,13 @@ use Rattle.certificate_runs.specs.declared.faults.UpgradeFault.{UpgradeFault}
 
 -- ---- a line in, a certificate out
 
--- of a task a certificate claims a plan that leads from the start to the goal at its cost, and no plan costs less; or a bound, and no plan costs less
+-- a certificate claims of a task a plan that leads from the start to the goal at its cost, and no plan costs less; or a bound, and no plan costs less
 abbrev pub ClaimsTruly : Task → ℕ → Option (List Move) → Type 0
 ClaimsTruly task cost (Some plan) = Leads task.rule task.start plan task.goal cost × IsLeast task.rule task.start task.goal cost
 ClaimsTruly task bound None = NothingBelow task.rule task.start task.goal bound
 
--- The bytes, read again, are this certificate, which names these groups, and claims something true of this task. Its rows prove it with the sums of the groups' tables, so whoever builds these accepts it.
+-- The bytes, read again, are this certificate, which names these groups, and claims something true of this task. Its rows prove it with the
+-- sums of the groups' tables, so whoever builds these accepts it.
 pub record CertifiesTruly (split : PartitionModel) (task : Task) (c : CertificateModel) (bytes : List ℕ) : Type 0 where
   pub read : certificate bytes ≡ Ok (c, [])
   pub groups : c.groups ≡ split
@@ -56,7 +57,8 @@ BoundsLackRows rules line output =
     (d : Data) → IsReply output 0 d → HasStatus d (codes "bounded")
     → (id : List ℕ) × (b : BoardModel) × (bound : ℕ) × (refused : OutOfMemory) × Names rules.grid line id b × SaysNumber d (codes "bound") bound × rules.allows b (Some (Bounded bound None (Memory (Refused refused)) None))
 
--- Where all of these lines are passed over, nothing is written. Else one alone is not, and the output is a certificate of the board that it names, with these groups, or a report that tells the truth of it, and says no bound that has rows.
+-- Where all of these lines are passed over, nothing is written. Else one alone is not, and the output is a certificate of the board that it
+-- names, with these groups, or a report that tells the truth of it, and says no bound that has rows.
 pub data AnswersFirst (split : PartitionModel) (rules : ProofRules) (lines : List (List ℕ)) (output : List ℕ) : Type 0 where
   by_none : questions 1 lines ≡ [] → output ≡ [] → AnswersFirst split rules lines output
   by_certificate : (n : ℕ) (line id : List ℕ) (b : BoardModel) (c : CertificateModel) → questions 1 lines ≡ (n, line) ∷ [] → Names rules.grid line id b → CertifiesTruly split (rules.task b) c output → AnswersFirst split rules lines output
@@ -76,12 +78,13 @@ IsTrueAnswer split rules source sink result = IfOk result (λ status. WritesAnsw
 
 -- ---- a certificate in, a verdict out
 
--- the input is refused by a fault with this code: by the first fault of its bytes, or by the first cause against the certificate that it is, with the tables of its groups
+-- the input is refused by a fault with this code: by the first fault of its bytes, or by the first cause against the certificate that it is,
+-- with the tables of its groups
 abbrev pub IsCertificateRefusedBy : List ℕ → List ℕ → Type 0
 IsCertificateRefusedBy input code =
     ((fault : FormatFault) × IsFirstFormatFault input fault × (code ≡ format_code fault)) ⊎ ((c : CertificateModel) × (tables : BoundModel) × (refusal : Refusal) × (certificate input ≡ Ok (c, [])) × AreBuiltFor c tables × IsFirstRefusal c tables refusal × (code ≡ refusal_code refusal))
 
--- of a plan its cost is said, at which it leads from the start to the goal, and no plan costs less; or a bound is said, and no plan costs less
+-- the cost of a plan is said, at which it leads from the start to the goal, and no plan costs less; or a bound is said, and no plan costs less
 abbrev pub SaysOf : CertificateModel → Option (List Move) → Data → Type 0
 SaysOf c (Some plan) d = SaysNumber d (codes "cost") c.cost × Leads c.costs c.start plan c.goal c.cost × IsLeast c.costs c.start c.goal c.cost
 SaysOf c None d = SaysNumber d (codes "bound") c.cost × NothingBelow c.costs c.start c.goal c.cost
@@ -122,12 +125,14 @@ IsTrueUpgrade source sink result = IfOk result (λ status. IfSome source.before.
 
 -- ---- a certificate in, a drawing out
 
--- the input is at fault with this code: its bytes are, or it is a certificate whose plan does not lead from its start to its goal at its cost, which is the first cause against it with any tables
+-- This is the code of what is wrong with the input. Its bytes have a first fault, or its plan does not lead from its start to its goal at its
+-- cost, which is the first cause against the certificate with any tables.
 abbrev pub IsMistaken : List ℕ → List ℕ → Type 0
 IsMistaken input code =
     ((fault : FormatFault) × IsFirstFormatFault input fault × (code ≡ format_code fault)) ⊎ ((c : CertificateModel) × (refusal : Refusal) × (certificate input ≡ Ok (c, [])) × ((tables : BoundModel) → IsFirstRefusal c tables refusal) × (code ≡ refusal_code refusal))
 
--- the input is a certificate, whose plan leads if there is one, and its drawing was written, with the status 0; or it is at fault, and the report of that was written, with the status 5
+-- The input is a certificate, whose plan leads if there is one, and its drawing was written, with the status 0. Or something is wrong with the
+-- input, and the report of that was written, with the status 5.
 abbrev pub WritesShow : Style → Change SinkState → ℕ → List ℕ → Type 0
 WritesShow style sink status input =
     ((c : CertificateModel) × (drawing : List ℕ) × (certificate input ≡ Ok (c, [])) × ItsPlanLeads c × IsDrawing style c drawing × Puts sink drawing × (status ≡ 0))

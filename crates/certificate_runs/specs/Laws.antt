@@ -38,7 +38,7 @@ use Rattle.certificate_runs.specs.declared.faults.CertifyFault.TheVariants as ce
 use Rattle.certificate_runs.specs.declared.faults.CheckFault.{CheckFault}
 use Rattle.certificate_runs.specs.declared.faults.CheckFault.TheVariants as check
 
--- a run that writes a certificate leaves the sink as it was, but after a fault of writing
+-- a run that writes a certificate and ends by another fault than one of writing leaves the sink as it was
 abbrev pub OtherFaultsLeaveTheSink : ProofRules → Type 0
 OtherFaultsLeaveTheSink rules =
     (split : PartitionModel) (source : Change SourceState) (sink : Change SinkState) (fault : CertifyFault) → fault ≢ certify.Write → fault ≢ certify.CertificateWrite → Replies split rules source sink (Err fault) → sink.after ≡ sink.before
@@ -55,7 +55,7 @@ SilenceIsUnasked rules = (split : PartitionModel) (lines : List (List ℕ)) → 
 abbrev pub LeastPlansAreCertified : Type 0
 LeastPlansAreCertified = (id : List ℕ) (cost : ℕ) (plan : Vec Move Global) → ¬ NeedsReport (answered id (Optimal cost plan))
 
--- nor is one that names a bound, but where memory was refused, so that it has no plan either
+-- nor is one that names a bound, except one without a plan, where memory was refused
 abbrev pub BoundsAreCertified : Type 0
 BoundsAreCertified =
     (id : List ℕ) (bound : ℕ) (best : Option (ℕ × Vec Move Global)) (cause : Cause) → NeedsReport (answered id (Bounded bound best cause)) → StandsAlone best cause
@@ -75,14 +75,14 @@ OutcomesWithRowsAreCertified rules =
     → ((given : Outcome) → rules.allows b (Some given) → IsSome (rows_of given))
     → ¬ AnswersLine (report_rules rules) line (answered name ending)
 
--- a certificate that claims what an ending says claims its plan at its cost, or its bound and no plan; of no plan at all there is none
+-- a certificate that claims what an ending says claims its plan at its cost, or its bound and no plan; none claims that there is no plan
 abbrev pub ClaimsAreOfEndings : Type 0
 ClaimsAreOfEndings =
     ((c : CertificateModel) (cost : ℕ) (plan : Vec Move Global) → Claims c (Optimal cost plan) → (c.cost ≡ cost) × (c.plan ≡ Some plan.items))
     × ((c : CertificateModel) (why : Why) → ¬ Claims c (Unsolvable why))
     × ((c : CertificateModel) (bound : ℕ) (best : Option (ℕ × Vec Move Global)) (cause : Cause) → Claims c (Bounded bound best cause) → (c.cost ≡ bound) × (c.plan ≡ None))
 
--- the status is 0 just where a plan is claimed, and 1 just where none is, but a bound
+-- the status is 0 exactly where a plan is claimed, and 1 exactly where none is, but a bound
 abbrev pub StatusesTellClaims : Type 0
 StatusesTellClaims = (c : CertificateModel) → ((certificate_output c).status ≡ 0 ↔ IsSome c.plan) × ((certificate_output c).status ≡ 1 ↔ (c.plan ≡ None))
 
@@ -94,7 +94,7 @@ IsReadOrFaulty read = ((c : CertificateModel) × (read ≡ Ok c)) ⊎ ((fault : 
 abbrev pub VerdictsAreOnWhatWasRead : Type 0
 VerdictsAreOnWhatWasRead = (read : Result CertificateModel ReadFault) (output : Output) → IsVerdictOutput read output → IsReadOrFaulty read
 
--- and memory is wanting for a verdict on these alone
+-- and memory is refused for a verdict on these alone
 abbrev pub WantsAreForVerdicts : Type 0
 WantsAreForVerdicts = (read : Result CertificateModel ReadFault) (sink : Change SinkState) (lacking : NoReport) → EndsCheck read sink (Err (check.Memory lacking)) → IsReadOrFaulty read
 
@@ -105,11 +105,11 @@ CertificatesAreOfOutcomes rules =
     → IsCertificateFor split rules bytes c
     → (id : List ℕ) × (b : BoardModel) × (given : Outcome) × IsEntry rules.grid bytes id b × rules.allows b (Some given) × Claims c (without_rows given) × (rows_of given ≡ Some c.rows)
 
--- V3 may be reported of a board only where memory may be wanting for it
+-- V3 may be reported of a board only where the rules allow that memory is refused for it
 abbrev pub WantsAreOfRules : ProofRules → Type 0
 WantsAreOfRules rules = (b : BoardModel) → (report_rules rules).allows b None → rules.allows b None
 
--- memory is wanting for the groups of a certificate only where the line names a board that may be answered by an outcome with rows
+-- memory is refused for the groups of a certificate only where the line names a board that may be answered by an outcome with rows
 abbrev pub GroupsAreWantedForRows : ProofRules → Type 0
 GroupsAreWantedForRows rules =
     (line : Line) (bytes : List ℕ) (wanting : OutOfMemory)

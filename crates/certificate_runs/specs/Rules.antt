@@ -10,7 +10,8 @@ use Rattle.outcomes.specs.Endings.{without_rows}
 use Rattle.outcomes.specs.Outcomes.{Task, Answers}
 use Rattle.batch_runs.specs.Batches.{Rules}
 
--- the shape of the boards, what is asked of each, and which outcomes, with rows or without, it may be answered by; no outcome tells a want of memory before the first step
+-- The shape of the boards, what is asked of each, and which outcomes, with rows or without, it may be answered by. None is a refusal of
+-- memory before the first step.
 pub record ProofRules : Type 1 where
   pub grid : ShapeModel
   pub task : BoardModel → Task
@@ -20,7 +21,7 @@ pub record ProofRules : Type 1 where
 abbrev pub ProvesTruly : ProofRules → Type 0
 ProvesTruly rules = (b : BoardModel) (given : Outcome) → rules.allows b (Some given) → Answers (rules.task b) given
 
--- who proves a board's plans gives an outcome that it may be answered by, or tells a want of memory where that may be answered
+-- a prover gives an outcome that the board may be answered by, or says that memory was refused, where the rules allow that
 abbrev pub MayProve : ProofRules → BoardModel → Result Outcome OutOfMemory → Type 0
 MayProve rules b (Ok given) = rules.allows b (Some given)
 MayProve rules b (Err refused) = rules.allows b None
@@ -32,11 +33,11 @@ rows_of (Unsolvable why) = None
 rows_of (Bounded bound best cause None) = None
 rows_of (Bounded bound best cause (Some rows)) = Some rows.items
 
--- of a board an ending may be reported where it may be answered by an outcome that says this and has no rows
+-- an ending may be reported of a board that may be answered by an outcome that says this and has no rows
 abbrev pub MayReport : ProofRules → BoardModel → Option Ending → Type 0
 MayReport rules b None = rules.allows b None
 MayReport rules b (Some ending) = (given : Outcome) × rules.allows b (Some given) × (without_rows given ≡ ending) × (rows_of given ≡ None)
 
--- what may be reported of boards; of an outcome that has rows there is a certificate
+-- what may be reported of boards: for an outcome that has rows there is a certificate instead
 abbrev pub report_rules : ProofRules → Rules
 report_rules rules = record { grid = rules.grid; task = rules.task; allows = MayReport rules }

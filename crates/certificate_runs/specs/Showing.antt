@@ -35,14 +35,16 @@ PutsRefusal code sink (Err (Memory lacking)) = IsUntouched sink
 PutsRefusal code sink (Err CertificateRead) = ⊥
 PutsRefusal code sink (Err (CertificateMemory refused)) = ⊥
 
--- what is shown of what was read: a drawing of a certificate, or the fault of its plan, or the first fault of the bytes; nothing of a failure of the source or of being out of memory
+-- what is shown of what was read: a drawing of a certificate, or the fault of its plan, or the first fault of the bytes; nothing where the
+-- source failed or memory was refused
 abbrev pub IsShowOutput : Style → Result CertificateModel ReadFault → Output → Type 0
 IsShowOutput style (Ok c) output = IsDrawn style c output ⊎ IsMisled c output
 IsShowOutput style (Err (Format fault)) output = IsRefusedReport (format_code fault) output
 IsShowOutput style (Err Failed) output = ⊥
 IsShowOutput style (Err (NoMemory refused)) output = ⊥
 
--- How the run ends after this was read: what is to be shown is written; or writing failed, and a beginning of it is written; or memory was refused, and nothing is written. Where there is nothing to show, that is what is answered.
+-- How the run ends after this was read. What is to be shown is written; or writing failed, and a beginning of it is written; or memory was
+-- refused, and nothing is written. Where there is nothing to show, the answer says why, and nothing is written.
 abbrev pub EndsShow : Style → Result CertificateModel ReadFault → Change SinkState → Result ℕ CheckFault → Type 0
 EndsShow style read sink (Ok status) = (output : Output) × IsShowOutput style read output × WritesAll sink output.text × (status ≡ output.status)
 EndsShow style read sink (Err Write) = (output : Output) × IsShowOutput style read output × FailsWriting sink output.text

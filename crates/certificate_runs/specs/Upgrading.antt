@@ -16,7 +16,8 @@ abbrev pub PutsUpgrade : CertificateModel → Change SinkState → Result ℕ Up
 PutsUpgrade c sink (Ok status) = WritesAll sink (spelling (upgraded c)) × (status ≡ 0)
 PutsUpgrade c sink (Err fault) = FailsWriting sink (spelling (upgraded c)) × (fault ≡ CertificateWrite)
 
--- How the run ends after this was read: so for a certificate; for a fault of the bytes nothing is written, with the status 5; and nothing where the source has failed, or memory was wanting.
+-- How the run ends after this was read. A certificate is upgraded. For a fault of the bytes nothing is written, with the status 5. Nothing is
+-- written where the source failed or memory was refused.
 abbrev pub EndsUpgrade : Result CertificateModel ReadFault → Change SinkState → Result ℕ UpgradeFault → Type 0
 EndsUpgrade (Ok c) sink result = PutsUpgrade c sink result
 EndsUpgrade (Err (Format fault)) sink result = IsUntouched sink × (result ≡ Ok 5)

@@ -37,13 +37,13 @@ use outcomes::{Ending, Outcome, SolveFault};
 use reports::{outcome_report, refused_report};
 use std::alloc::Global;
 
-/// What says how boards are answered where rows are asked for.
+/// Rules of how boards are answered where rows are asked for.
 pub trait ProofRuled {
     // The shape of the boards, what is asked of a board, and what it may be answered by.
     ghost rules: { Self → ProofRules };
 }
 
-/// Who answers a setup's boards with rows, as the rules allow.
+/// A prover: it answers a setup's boards with rows, as the rules allow.
 pub trait Prover: ProofRuled {
     // The setup: its tables guide the search.
     ghost setup: { Self → SetupModel };
@@ -55,8 +55,8 @@ pub trait Prover: ProofRuled {
     fn setup(&self) -> &Setup
         ensures { result.now ≡ setup self.now };
 
-    /// The outcome of a board: where it is a plan of least cost or a bound, with the rows that prove
-    /// it. The error: out of memory before the first step.
+    /// The outcome of a board: where it is a plan of least cost or a bound, with the rows that
+    /// prove it. The error: out of memory before the first step.
     fn prove(&self, start: &Board) -> Result<Outcome, OutOfMemory>
         requires callable { is_callable self.now }
         requires grid { start.now.grid ≡ (Self.rules self.now).grid }
@@ -66,16 +66,16 @@ pub trait Prover: ProofRuled {
     ghost fits: { (prover : Self) → AreRulesFor (setup prover) (Self.rules prover) };
 }
 
-/// Answers the first line of the source that isn't passed over, and takes nothing behind it: where
+/// Answers the first line of the source that isn't passed over, and takes nothing behind it. Where
 /// a plan of least cost is found, or a bound with its rows, its certificate is written, else the
 /// line's report. A certificate names the groups of the setup's tables.
 ///
 /// Answers the status: 0 for a certificate of a plan, for a board without a plan, and where no line
 /// is to be answered; 1 for a bound, certified or not, and for a line that is refused. Nothing is
-/// written where reading fails or memory is wanting. What is written is flushed; where the flush
-/// fails, so has the write.
+/// written where reading fails or memory is refused for the reply. What is written is flushed, and
+/// a flush that fails counts as a write that failed.
 ///
-/// What is written tells the truth: so says the clause `truth`, in words of what a reader sees.
+/// What is written tells the truth. The clause `truth` says so, in terms of what a reader sees.
 pub fn certify_first<S: Source, K: Sink, A: Prover>(
     alloc: Global,
     source: &mut S,
@@ -257,7 +257,7 @@ fn certify_claim(
     ensures claims { IfOk result (λ c.
         (c.cost ≡ cost_of claim) × (c.plan ≡ plan_of claim) × (c.rows ≡ rows.items)) }
 {
-    // The order of the rows, which is by key, is that of their lists of tiles by this law.
+    // By this law the order of the rows, which is by key, is that of their lists of tiles.
     keys_are_in_order();
     let tables = setup.tables();
     // So no sum of theirs is above that of the tables that a checker builds.
@@ -265,7 +265,7 @@ fn certify_claim(
     let groups = tables.partition().copy(alloc)?;
     let goal = setup.goal();
     let costs = setup.weights();
-    // That these are a weight for each tile is told by this call.
+    // The contract of this call says that these are a weight for each tile.
     let _ = costs.shape();
     let parts = Parts {
         version: Version::Two,
@@ -290,17 +290,17 @@ fn tell_entries(bound: &Bound)
     }
 }
 
-// No entry of these tables is.
+// The same for whole tables.
 fn tell_whole(tables: &[Table])
     ensures { All HasSmallEntries tables.now }
 {
     'tables: for place in 0..tables.len() {
-        // (that no value is greater is among what the call promises)
+        // The contract of this call says that no value of the table is greater.
         let _ = tables[place].group();
     }
 }
 
-// Nor one of these, which are folded.
+// The same for folded tables.
 fn tell_folded(folds: &[Folded])
     ensures { All HasSmallFolds folds.now }
 {

@@ -24,14 +24,14 @@ use std::alloc::Global;
 use std::thread::Threads;
 use table_sets::build_bound;
 
-// From so many rows on, several threads look at them. Fewer are checked in less time than would pay
-// for the threads.
+// From this number of rows on, several threads look at them. Fewer rows are checked in less time
+// than would pay for the threads.
 const PARALLEL_ROWS: usize = 4_096;
 
 /// Checks the certificate that the source spells with tables that are built for its groups, and
-/// writes one line: the least cost or the bound, or the code of the first fault. Answers the status: 0 where it
-/// is accepted, 5 where it is refused. Large tables are built side by side, and many rows are
-/// checked side by side, by several threads.
+/// writes one line: the least cost or the bound, or the code of the first fault. Answers the
+/// status: 0 where it is accepted, 5 where it is refused. Several threads build large tables side
+/// by side, and check many rows side by side.
 ///
 /// Nothing is written where the source fails, or where there is no memory for the certificate, for
 /// its tables or for the line. Nothing is flushed.
@@ -85,7 +85,8 @@ fn build_for<R: Threads + Sync>(
     ensures built { IfOk result (AreBuiltFor certificate.now) }
     ensures fit { IfOk result (AreTablesFit certificate.now) }
 {
-    // What holds of every certificate, as that its boards are of one shape, is told by this call.
+    // The contract of this call says what holds of every certificate, such as that its boards are
+    // of one shape.
     let _ = certificate.shape();
     let groups = certificate.groups().copy(alloc)?;
     build_bound(rt, alloc, groups, &certificate.goal(), &certificate.costs())

@@ -11,7 +11,8 @@ ghost use Rattle.certificate_runs.specs.Laws.{VerdictsAreOnWhatWasRead, WantsAre
 
 use crate::certifying::ProofRuled;
 
-/// A run that writes a certificate leaves the sink as it was, but after a fault of writing.
+/// A run that writes a certificate and ends by another fault than one of writing leaves the sink as
+/// it was.
 pub fn other_faults_leave_the_sink<A: ProofRuled>(asked: &A)
     ensures { OtherFaultsLeaveTheSink (A.rules asked.now) }
 {
@@ -31,8 +32,8 @@ pub fn silence_is_unasked<A: ProofRuled>(asked: &A)
     let _ = asked;
 }
 
-/// No report names a least plan, or a bound but for want of memory: of such an answer the
-/// certificate is written, and its status tells which.
+/// No report names a least plan, and none names a bound except where memory was refused. Other such
+/// answers are written as certificates, whose status says whether a plan or a bound is claimed.
 #[tactic(auto, using(crate::proofs::HeadlineLemmas::certified, crate::proofs::HeadlineLemmas::bounds_certified, crate::proofs::HeadlineLemmas::claims_of_endings, crate::proofs::HeadlineLemmas::statuses_tell))]
 pub fn least_plans_are_certified()
     ensures plans { LeastPlansAreCertified }
@@ -50,8 +51,8 @@ pub fn outcomes_with_rows_are_certified<A: ProofRuled>(asked: &A)
     let _ = asked;
 }
 
-/// A certificate claims what an outcome says that its board may be answered by, and has its rows. V3
-/// is reported, memory is wanting for groups, and a bound is said only where the rules allow it.
+/// A certificate claims what an outcome says that its board may be answered by, and has its rows.
+/// V3 is reported, memory is refused for groups, and a bound is said only where the rules allow it.
 pub fn replies_are_of_rules<A: ProofRuled>(asked: &A)
     ensures certificates { CertificatesAreOfOutcomes (A.rules asked.now) }
     ensures wants { WantsAreOfRules (A.rules asked.now) }
@@ -61,7 +62,7 @@ pub fn replies_are_of_rules<A: ProofRuled>(asked: &A)
     let _ = asked;
 }
 
-/// A verdict is given, or memory is wanting for one, only where a certificate was read or a fault
+/// A verdict is given, or memory is refused for one, only where a certificate was read or a fault
 /// of the bytes.
 #[tactic(auto, using(crate::proofs::HeadlineLemmas::for_verdicts, crate::proofs::HeadlineLemmas::on_what_was_read))]
 pub fn verdicts_are_on_what_was_read()

@@ -12,12 +12,12 @@ use byte_streams::{Sink, Source};
 use certificate::{ReadFault, read};
 use std::alloc::Global;
 
-/// Reads the certificate that the source spells and writes the same in version 2, which of a
-/// certificate in version 2 is itself. Answers the status: 0 where it is written, 5 where the bytes
+/// Reads the certificate that the source spells and writes the same in version 2. A certificate in
+/// version 2 is written as it is. Answers the status: 0 where it is written, 5 where the bytes
 /// spell none, and then nothing is written. What a certificate claims is not checked.
 ///
 /// Nothing is written where the source fails, or where there is no memory for the certificate. What
-/// is written is flushed; where the flush fails, so has the write.
+/// is written is flushed, and a flush that fails counts as a write that failed.
 pub fn run_upgrade<S: Source, K: Sink>(
     alloc: Global,
     source: &mut S,

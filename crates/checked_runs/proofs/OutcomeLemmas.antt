@@ -106,7 +106,7 @@ module _ {S : Type 0} (owner_of : S → ℕ → BoardModel → ℕ) where
   behind_refused : (p : JobModel) (owners : S) (n : ℕ) (tables : BoundModel) (refusal : Refusal) → IsRefusedRun owner_of p owners n tables refusal → (given : Outcome) × IsSolved owner_of p owners n given
   behind_refused p owners n tables refusal (cost, plan, rows, solved, first) = (Optimal cost plan rows, solved)
 
-  -- what a checked run answers, or refuses, stands on a run
+  -- for what a checked run answers, or refuses, there is a run
   pub run_behind : CheckedRunsAreRuns owner_of
   run_behind p owners n outcome tables refusal = (behind_checked p owners n outcome, behind_refused p owners n tables refusal)
 

@@ -9,7 +9,8 @@ use Rattle.certificate_check.specs.Refusals.{sum_in}
 use Rattle.hda_run.specs.Jobs.{JobModel}
 use Rattle.checked_runs.specs.declared.checking.Proved.{Proved}
 
--- the certificate that this plan leads from the problem's start to its goal at this cost, which the rows prove to be least with the sums of the problem's groups
+-- the certificate that this plan leads from the problem's start to its goal at this cost, which the rows prove to be least with the sums
+-- of the problem's groups
 abbrev pub certificate_in : JobModel → ℕ → List Move → List (BoardModel × ℕ) → CertificateModel
 certificate_in p cost plan rows = record { version = Two; grid = p.goal.grid; costs = p.rule; groups = p.tables.split; start = p.start; goal = p.goal; cost = cost; plan = Some plan; rows = rows }
 

@@ -31,7 +31,7 @@ IsUncertifiedPlan owner_of p owners n outcome =
 abbrev pub IsCheckedRun : {S : Type 0} → (S → ℕ → BoardModel → ℕ) → JobModel → S → ℕ → Outcome → Type 0
 IsCheckedRun owner_of p owners n outcome = IsSolved owner_of p owners n outcome ⊎ IsUncertifiedPlan owner_of p owners n outcome
 
--- for this cause first a certificate is refused with these tables: that of a plan of n workers, or of one alone
+-- a certificate is refused with these tables, first for this cause: that of a plan of n workers, or of one alone
 abbrev pub IsRefusedRun : {S : Type 0} → (S → ℕ → BoardModel → ℕ) → JobModel → S → ℕ → BoundModel → Refusal → Type 0
 IsRefusedRun owner_of p owners n tables refusal =
     (cost : ℕ) × (plan : Vec Move Global) × (rows : Vec (BoardModel × ℕ) Global)

@@ -61,7 +61,7 @@ ProvedPlansAreLeast =
     → Leads p.rule p.start plan.items p.goal cost × Proves p.rule rows.items (sum_in tables) p.start p.goal cost
 
 module _ {S : Type 0} (owner_of : S → ℕ → BoardModel → ℕ) where
-  -- behind the outcome of a checked run, and behind a certificate that is refused, stands what n workers answer, or one alone
+  -- for the outcome of a checked run, and for a certificate that is refused, there is an outcome that n workers answer, or one alone
   abbrev pub CheckedRunsAreRuns : Type 0
   CheckedRunsAreRuns =
       (p : JobModel) (owners : S) (n : ℕ) (outcome : Outcome) (tables : BoundModel) (refusal : Refusal)

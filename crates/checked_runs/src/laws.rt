@@ -36,8 +36,8 @@ pub fn proved_plans_are_least()
     ensures { ProvedPlansAreLeast }
 {}
 
-/// Behind the outcome of a checked run, and behind a certificate that is refused, stands what so many
-/// workers answer, or one alone.
+/// For the outcome of a checked run, and for a certificate that is refused, there is an outcome
+/// that n workers answer, or one alone.
 #[tactic(auto, using(crate::proofs::OutcomeLemmas::run_behind))]
 pub fn checked_runs_are_runs<S: Spread>()
     ensures { CheckedRunsAreRuns S.owner_of }

@@ -1,4 +1,4 @@
-//! Jobs that so many workers solve, and whose plans are checked.
+//! Jobs that several workers solve, and whose plans are checked.
 
 ghost use Rattle.std.specs.Prelude.{◌≡◌, ◌↔◌, Ok, IfOk, IsErrOf};
 ghost use Rattle.board.specs.Classes.{SameClass};
@@ -25,15 +25,20 @@ use std::sync::Wait;
 use std::thread::Threads;
 use thread_runs::solve;
 
-/// Solves a job by so many workers, as `solve` does, and answers a plan of least cost only where the
-/// checker accepts its certificate with these tables. The certificate names the groups of the job's
-/// own tables. The checker refuses folded tables, so a job that these guide is to be checked with
-/// whole ones, as those that its own were folded from. Where memory was refused for the copy of the
-/// groups, the cost is answered as a bound, without the plan and its rows.
+/// Solves a job by several workers, as `solve` does, and answers a plan of least cost only where
+/// the checker accepts its certificate with these tables.
 ///
-/// Faults: V2 the workers are not from 1 to `WORKER_LIMIT`, V3 memory was refused for the world of
-/// one worker, V4 the checker refused the certificate, which it never does with tables that are as
-/// good as the job's.
+/// The certificate names the groups of the job's own tables. The checker refuses folded tables, so
+/// a job that these guide is to be checked with whole ones, such as those that its own were folded
+/// from. Where memory was refused for the copy of the groups, the cost is answered as a bound,
+/// without the plan and its rows.
+///
+/// Faults:
+///
+/// - V2: the workers are not from 1 to `WORKER_LIMIT`.
+/// - V3: memory was refused for the world of one worker.
+/// - V4: the checker refused the certificate, which it never does with tables that are as good as
+///   the job's.
 pub fn solve_checked<'a, R: Threads + Wait + Sync, S: Spread + Sync, G: Gate + Sync>(
     rt: &R,
     alloc: Global,
@@ -58,7 +63,7 @@ pub fn solve_checked<'a, R: Threads + Wait + Sync, S: Spread + Sync, G: Gate + S
 {
     // By this law no plan leads from a board to another class.
     plans_keep_the_class();
-    // The order of the rows, which is by key, is that of their lists of tiles by this law.
+    // By this law the order of the rows, which is by key, is that of their lists of tiles.
     keys_are_in_order();
     let start = *job.start();
     let goal = *job.goal();

@@ -102,7 +102,7 @@ module _ (f t : ℕ → ℕ) (b : ℕ) where
         bucket_no f t b i (none i before (omega arith)) ∙ bucket_skip j i before (λ k low high. none k low (omega arith))
   ]
 
-  -- what stands in a bucket of one of its slots
+  -- the place and the hash that a bucket has of one of its slots
   pub entry_is : (k i : ℕ) → k < i → f k ≡ b → (bucket_of f t b k).count < 7 → (get_or (bucket_of f t b i).places (bucket_of f t b k).count 0 ≡ k) × (get_or (bucket_of f t b i).hashes (bucket_of f t b k).count 0 ≡ t k)
   entry_is k zero lt is less = absurd (omega arith)
   entry_is k (suc i) lt is less = elim (cases_eq k i) [

@@ -55,7 +55,7 @@ finds_after_set (e ∷ es) (suc i) key k d lt is once q =
       | inr later ↦ finds_later (set es i (key, k)) e q later ∙ rest ∙ ap (λ o. cond (eq_by_cmp nat_cmp q key) (Some k) o) (sym (finds_later es e q later))
     ]
 
--- no key stands twice in these slots
+-- no two of these slots have the same key
 abbrev pub AreDifferent : List Slot → ℕ → Type 0
 AreDifferent slots len = (i j : ℕ) → i < len → j < len → key_at slots i ≡ key_at slots j → i ≡ j
 

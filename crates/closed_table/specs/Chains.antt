@@ -15,12 +15,12 @@ use Rattle.closed_table.specs.declared.index.Index.{Index}
 unfoldable pub key_hash : ℕ → ℕ
 key_hash key = key * 0x9E3779B97F4A7C15F39CC0605CEDC835 % 2 ^ 128 / 2 ^ 96
 
--- how many chains there are for so many slots
+-- the number of chains for `len` slots
 abbrev pub chain_count : ℕ → ℕ
 chain_count len = if len == 0 then 0 else max 127 ((len + 3) / 4)
 
--- the chain of a hash among n chains, of which there are at most 2 ^ bits and at least half of that: the last bits of
--- the hash, or one bit less where there is no such chain yet
+-- the chain of a hash among n chains, where n is at most 2 ^ bits and at least half of that: the last bits of the hash, or one bit less
+-- where there is no such chain yet
 unfoldable pub place : ℕ → ℕ → ℕ → ℕ
 place bits n hash = cond (nat_lt (hash % 2 ^ bits) n) (hash % 2 ^ bits) (hash % 2 ^ bits - 2 ^ bits / 2)
 
@@ -40,7 +40,7 @@ bucket_with bucket place hash = cond (nat_lt bucket.count 7)
     (record bucket { hashes = set bucket.hashes bucket.count hash; places = set bucket.places bucket.count place; count = bucket.count + 1 })
     (record bucket { link = place + 1; filter = bit_or bucket.filter (1 * 2 ^ (hash / 2 ^ 28) % 2 ^ 16) })
 
--- the bucket of a chain that has those of the first so many slots that belong to it
+-- the bucket of a chain, with those of the first i slots that belong to it
 unfoldable pub bucket_of : (ℕ → ℕ) → (ℕ → ℕ) → ℕ → ℕ → Bucket
 bucket_of chains hashes chain zero = no_bucket
 bucket_of chains hashes chain (suc i) = cond (chains i == chain) (bucket_with (bucket_of chains hashes chain i) i (hashes i)) (bucket_of chains hashes chain i)
@@ -64,11 +64,11 @@ hash_at slots i = key_hash (key_at slots i)
 abbrev pub chain_at : List Slot → ℕ → ℕ → ℕ → ℕ
 chain_at slots bits n i = place bits n (hash_at slots i)
 
--- the bucket of a chain, among n, that has those of the first so many slots that belong to it
+-- the bucket of a chain, among n, with those of the first i slots that belong to it
 abbrev pub bucket_at : List Slot → ℕ → ℕ → ℕ → ℕ → Bucket
 bucket_at slots bits n chain i = bucket_of (chain_at slots bits n) (hash_at slots) chain i
 
--- the first slots, as many as this, are in n chains; the links of those are right that are in no bucket
+-- the first `len` slots are in n chains, and the links of those that are in no bucket are right
 pub record IsIndexed (slots : List Slot) (links : List ℕ) (buckets : List Bucket) (len n bits : ℕ) : Type 0 where
   pub small : bits ≤ 32
   pub low : 2 ^ bits / 2 ≤ n
@@ -139,7 +139,7 @@ stays bits n from hash = place bits (n + 1) hash == from
 abbrev pub moves_on : ℕ → ℕ → ℕ → ℕ → Bool
 moves_on bits n from hash = not (place bits (n + 1) hash == from)
 
--- of the first so many slots in a bucket, the bucket of those whose hash passes a test
+-- the bucket of those of the first k slots in a bucket whose hash passes a test
 unfoldable pub bucket_part : (ℕ → Bool) → Bucket → ℕ → Bucket
 bucket_part test bucket zero = no_bucket
 bucket_part test bucket (suc k) = cond (test (slice_index bucket.hashes k)) (bucket_with (bucket_part test bucket k) (slice_index bucket.places k) (slice_index bucket.hashes k)) (bucket_part test bucket k)
@@ -149,7 +149,7 @@ bucket_part test bucket (suc k) = cond (test (slice_index bucket.hashes k)) (buc
 abbrev pub AreHalves : List Slot → ℕ → ℕ → ℕ → ℕ → ℕ → Bucket → Bucket → Type 0
 AreHalves slots len bits n from link stay go = (m : ℕ) → m ≤ len → (bucket_at slots bits n from m).count ≡ (bucket_at slots bits n from len).count → (bucket_at slots bits n from m).link ≡ link → (stay ≡ bucket_at slots bits (n + 1) from m) × (go ≡ bucket_at slots bits (n + 1) n m)
 
--- the list of a chain can be divided from this link on, after what stands before the list
+-- the list of a chain can be divided from this link on; `stay` and `go` are the halves of the slots before the list
 pub record MayBeRelinked (slots : List Slot) (links : List ℕ) (len bits n from link : ℕ) (stay go : Bucket) : Type 0 where
   pub small : bits ≤ 32
   pub low : 2 ^ bits / 2 ≤ n

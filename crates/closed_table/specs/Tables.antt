@@ -20,12 +20,12 @@ pub record ClosedModel : Type 0 where
 abbrev pub empty_table : ClosedModel
 empty_table = record { keys = []; known = map.empty; room = 0 }
 
--- the keys are those of which something is known, each once
+-- the keys are those at which something is known, each once
 pub record IsTable (t : ClosedModel) : Type 0 where
   pub each : (key : ℕ) → Contains t.keys key ↔ IsSome (map.get t.known key)
   pub once : IsDistinct nat_eq t.keys
 
--- what becomes of a board of which this is known, met at a cost
+-- the answer for a board that is met at a cost, where this is known of it
 abbrev pub relaxation_answer : Option Known → ℕ → Relaxed
 relaxation_answer None cost = New
 relaxation_answer (Some known) cost = if is_news (Some known) cost then Lower else Kept

@@ -21,7 +21,7 @@ use std::alloc::Global;
 // An odd number with no pattern in its bits.
 const FACTOR: u128 = 0x9E37_79B9_7F4A_7C15_F39C_C060_5CED_C835;
 
-// Of how many slots a bucket has the places and the hashes.
+// The number of slots whose places and hashes a bucket has.
 const ENTRIES: usize = 7;
 
 // How many slots there are for each chain, where there are more than the first ones.
@@ -118,7 +118,7 @@ pub(crate) fn hash(key: u128) -> u32
     (key.wrapping_mul(FACTOR) >> 96) as u32
 }
 
-// How many chains there are for so many slots.
+// The number of chains for `len` slots.
 pub(crate) fn chain_count_of(len: usize) -> usize
     requires { len ≤ 2 ^ 33 }
     ensures { result ≡ chain_count len }
@@ -129,7 +129,7 @@ pub(crate) fn chain_count_of(len: usize) -> usize
     ((len + (LOAD - 1)) / LOAD).max(FIRST_CHAINS)
 }
 
-// The chain to which a hash belongs, among so many chains.
+// The chain to which a hash belongs, among this number of chains.
 fn chain_of(hash: u32, bits: u32, chains: usize) -> usize
     requires { AreBitsFor bits chains }
     ensures { result ≡ place bits chains hash }
@@ -179,7 +179,7 @@ fn put(bucket: &mut Bucket, place: usize, hash: u32)
 }
 
 // Whether one of a bucket's hashes is this one, also of those where no slot is. All of them are
-// compared: where the last slot is, is guessed wrong often, and mostly none has the hash.
+// compared: the processor often guesses wrong where the last slot is, and mostly none has the hash.
 fn has_hash(bucket: &Bucket, hash: u32) -> bool
     ensures yes { IsTrue result
         → (k : ℕ) × (k < 7) × (slice_index bucket.now.hashes k ≡ hash) }
@@ -261,7 +261,7 @@ pub(crate) fn read_ahead(index: &Index, keys: &[u128]) -> u32
     all
 }
 
-// Puts a slot into a bucket with free entries, if it belongs there. To do either takes no guess of
+// Puts a slot into a bucket with free entries, if it belongs there. Neither case takes a guess of
 // the processor.
 fn put_if(bucket: &mut Bucket, place: usize, hash: u32, belongs: bool)
     requires free { bucket.old.count < 7 }
@@ -348,8 +348,8 @@ fn bits_for_more(bits: u32, chains: usize) -> u32
     bits
 }
 
-// Reads ahead, for every eighth chain that is divided, what `relink` will read first of the lists of
-// this one and the seven next, so that the reads of memory overlap. The answer means nothing.
+// Reads ahead, for every eighth chain that is divided, what `relink` will read first of the lists
+// of this one and the seven next, so that the reads of memory overlap. The answer means nothing.
 fn read_lists(index: &Index) -> u64
     requires small { index.now.bits ≤ 32 }
     requires few { index.now.len ≤ 2 ^ 33 }
@@ -397,8 +397,8 @@ fn add_chain(index: &mut Index)
     index.buckets.set(chains, halves.go);
 }
 
-// Makes the first chains, where there is no slot. No bucket is written: each is that of a chain with
-// no slot since its page was made.
+// Makes the first chains, where there is no slot. No bucket is written: each is that of a chain
+// with no slot since its page was made.
 fn make_first_chains(index: &mut Index)
     requires none { index.old.len ≡ 0 }
     requires room { 127 ≤ length index.old.buckets }

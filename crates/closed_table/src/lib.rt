@@ -1,4 +1,4 @@
-//! The closed list, and all boards that are known beside: what is known of each, by their keys.
+//! The closed list, and all other boards that are known: what is known of each, by their keys.
 //!
 //! - Contracts see a `Closed` as a `ClosedModel`: keys in order of arrival, what is known of each,
 //!   and room. Keys are any `u128`.
@@ -9,7 +9,7 @@
 //!   the others, and a filter with a bit for each hash in it.
 //! - 127 chains are made with the first slot; from 508 slots on one chain is added with each fourth
 //!   slot and takes slots from one other (linear hashing, Litwin 1980).
-//! - Of eight chains divided in a row the lists are read at once, so that cache misses overlap. All
+//! - The lists of eight chains divided in a row are read at once, so that cache misses overlap. All
 //!   seven hashes are compared without a branch.
 //! - `read_ahead` changes nothing in contracts; it writes a field nobody reads, so that the reads
 //!   stay.

@@ -13,7 +13,7 @@ use std::alloc::Global;
 use std::marker::Model;
 use world_model::Known;
 
-// What stands in pages where nothing was put yet.
+// What pages hold where nothing was put yet.
 const NO_SLOT: Slot = Slot {
     high: 0,
     low: 0,
@@ -35,7 +35,7 @@ pub enum Relaxed {
 
 /// Known boards, by their keys.
 ///
-/// They stand in pages, in order of arrival, and belong to chains by the hashes of their keys. 127
+/// They are in pages, in order of arrival, and belong to chains by the hashes of their keys. 127
 /// chains are made with the first board. From 508 boards on one more is added with each fourth
 /// board and takes its boards from one other chain: no page is ever copied.
 #[derive(Drop)]

@@ -1,4 +1,4 @@
--- What a parse of the words says of a command, its matches, and what they ask for.
+-- What a parse of arguments says of a command, its matches, and what they ask for.
 use Rattle.std.proofs.Common.{◌≡◌, ℕ, List, Option, None, Some, sym, ap, subst, ◌∙◌, codes, true, refl, Bool, false, ap₂, [], Result, Ok, Err, IfOk, IfErr, inl, option_map, ◌≢◌, ◌==◌, ◌⊎◌, ◌∷◌, inr, map, length}
 use Rattle.std.specs.Prelude.{◌||◌, IfSome, IsTrue, ◌↔◌, is_some, not, unwrap_or, Box}
 use Rattle.std.specs.Result.{IsErrAnd}
@@ -50,7 +50,7 @@ use Rattle.board_lists.specs.Lists.{MayBeListed}
 use Rattle.board_lists.specs.declared.choices.Choice.{Choice}
 use Rattle.board_lists.specs.declared.choices.Choice.TheVariants.{Drawn, Walked, Whole}
 
--- ---- the command is one of those whose parse clap's contracts give as a function of the words
+-- ---- the command is one of those whose parse clap's contracts give as a function of the arguments
 
 pub program_is_simple : (spreads : Choices) → is_simple (program_app spreads) ≡ true
 unfolding clap_on_literals
@@ -83,7 +83,7 @@ adds_subcommand old below new added is before = record {
 pub parses : (option arg : Rule) (parser : ValueParser) (given : Text) → arg ≡ parsed_rule option parser given → {rule : Rule} → option ≡ rule → arg ≡ parsed_rule rule parser given
 parses option arg parser given made is = made ∙ ap (λ (r : Rule). parsed_rule r parser given) is
 
--- ---- what a parse of words by the program says of them
+-- ---- what a parse of arguments by the program says of them
 
 -- matches say that there is no fault, and what the subcommand has
 pub matches_say : (spreads : Choices) → AreChoices spreads → (program : App) → program ≡ program_app spreads → (words : List Text) → (result : Result ArgMatches Error) → IfOk result (HasMatchesOf program words) → (is_simple_and_free program ≡ true → FailsBy (fault_of program words) result) → IfOk result (λ matches. (program : App) × IsProgram program × (fault_of program words ≡ []) × (subcommand_rows_of matches ≡ subcommand_of program words))
@@ -95,7 +95,7 @@ matches_say spreads choices program is words (Ok matches) has fails = (
 )
 matches_say spreads choices program is words (Err error) has fails = tt
 
--- an error has a kind of fault that the words have, or memory was refused
+-- an error has a kind of fault that the arguments have, or memory was refused
 pub error_says : (spreads : Choices) → AreChoices spreads → (program : App) → program ≡ program_app spreads → (words : List Text) → (result : Result ArgMatches Error) → (is_simple_and_free program ≡ true → FailsBy (fault_of program words) result) → IfErr result (λ error. (program : App) × IsProgram program × HasKind (fault_of program words) error)
 error_says spreads choices program is words (Ok matches) fails = tt
 error_says spreads choices program is words (Err error) fails = (program, (spreads, choices, is), fails (ap is_simple_and_free is ∙ program_is_free spreads))
@@ -162,9 +162,9 @@ pub memory_fails : (subcommand : Option (Text × List Row)) → (option_map (λ 
 memory_fails None other another = refl
 memory_fails (Some p) other another = (λ is. other (ap Some is), λ is. another (ap Some is), λ is. refl, λ is. tt, λ is. tt)
 
--- ---- what words ask for, or why they ask for nothing, by what a parse of them says
+-- ---- what arguments ask for, or why they ask for nothing, by what a parse of them says
 
--- some words ask for what a parse says
+-- arguments ask for what a parse of them says
 words_ask : {A : Type 0} → (f : A → Text) → (given : List A) → false ≡ (length given == 0) → (program : App) → IsProgram program → (request : Request) → AsksText (fault_of program (map f given)) request ⊎ ((fault_of program (map f given) ≡ []) × AsksRun (subcommand_of program (map f given)) request) → WordsAsk (map f given) request
 words_ask f [] some program is request asks = absurd (true≢false (sym some))
 words_ask f (word ∷ words) some program is request asks = (program, is, asks)

@@ -1,4 +1,4 @@
--- The program's subcommands and their options, as a parse of words reads them.
+-- The program's subcommands and their options, as a parse of arguments reads them.
 use Rattle.std.specs.Prelude.{ℕ, ◌≡◌, true, false, List, [], ◌∷◌, Some, codes, map, Result, IfOk, IfErr}
 use Rattle.std.specs.Borrow.{Bor}
 use Rattle.clap.specs.Words.{Text, Rule, App, app_of, kind_of, new_rule, new_app, with_rule, with_subcommand}
@@ -10,7 +10,7 @@ use Rattle.clap.specs.declared.builder.value_parser.ValueParser.TheVariants as v
 use Rattle.clap.specs.declared.error.Error.{Error}
 use Rattle.clap.specs.declared.error.kind.ErrorKind.TheVariants.{OutOfMemory}
 
--- the words that an option may have as its value, as code holds them
+-- the values that an option may have, as code holds them
 abbrev pub Choices : Type 0
 Choices = Bor (List (Bor Text))
 
@@ -34,7 +34,7 @@ parsed_rule rule parser given = record rule { parser = Some parser; defaults = g
 abbrev pub number_rule : Text → ℕ → ℕ → Text → Rule
 number_rule name least most given = parsed_rule (option_rule name) (value.Unsigned least most) given
 
--- an option of one of some words, with the one that it has where it is left out
+-- an option of one of some values, with the one that it has where it is left out
 abbrev pub choice_rule : Text → Choices → Text → Rule
 choice_rule name choices given = parsed_rule (option_rule name) (value.Names choices) given
 
@@ -92,7 +92,7 @@ proving_app spreads =
 abbrev pub program_app : Choices → App
 program_app spreads = with_subcommand (with_subcommand (proving_app spreads) (puzzle_app spreads (codes "replay")).top) boards_app.top
 
--- A parse of words reads the command so, and none of its options is for all its subcommands.
+-- A parse of arguments reads the command so, and none of its options is for all its subcommands.
 pub record IsReadAs (app : App) (command : Command) : Type 0 where
   pub parse : app_of command ≡ app
   pub local : (out-Command command).has_globals ≡ false
@@ -102,10 +102,10 @@ pub record MakesCommand (app : App) (made : Result Command Error) : Type 0 where
   pub command : IfOk made (IsReadAs app)
   pub refused : IfErr made (λ e. kind_of e ≡ OutOfMemory)
 
--- the words that `--spread` may have
+-- the values that `--spread` may have
 abbrev pub AreChoices : Choices → Type 0
 AreChoices spreads = map (λ t. t.now) spreads.now ≡ codes "zobrist" ∷ codes "blank" ∷ []
 
--- the program with these words
+-- the program with these values of `--spread`
 abbrev pub IsProgram : App → Type 0
 IsProgram program = (spreads : Choices) × AreChoices spreads × (program ≡ program_app spreads)

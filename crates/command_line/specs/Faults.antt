@@ -1,4 +1,4 @@
--- Why words ask for nothing: the status that each reason ends the program by, and the code that stands for it.
+-- Why arguments ask for nothing: the status that each reason ends the program by, and the code that it is reported by.
 use Rattle.std.specs.Prelude.{ℕ, List, [], ◌∷◌, ◌++◌, codes, string_bytes}
 use Rattle.board.specs.Faults.{tiles_code, weights_code}
 use Rattle.option_texts.specs.Faults.{groups_code}
@@ -8,7 +8,7 @@ use Rattle.command_line.specs.declared.faults.NoRequest.TheVariants.{Usage, Goal
 use Rattle.command_line.specs.declared.faults.ListFault.{ListFault}
 use Rattle.command_line.specs.declared.faults.ListFault.TheVariants.{NotAlone, TooManyCells}
 
--- 2 for the words, with the texts of the goal, of the costs and of the groups among them; 4 for want of memory
+-- 2 for the arguments, the texts of the goal, of the costs and of the groups among them; 4 where memory was refused
 abbrev pub refusal_status : NoRequest → ℕ
 refusal_status (Usage text) = 2
 refusal_status (Goal fault) = 2

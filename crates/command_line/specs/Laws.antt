@@ -33,7 +33,7 @@ SaidCostsAreDetermined = (grid : ShapeModel) (text : Option Text) (rule rule' : 
 abbrev pub SaidCostsHaveNoFault : Type 0
 SaidCostsHaveNoFault = (grid : ShapeModel) (text : Option Text) (rule : WeightsModel) (fault : WeightsFault) → AreCostsSaid grid text rule → ¬ IsCostsFault grid text fault
 
--- memory is refused, of which the words say nothing
+-- memory is refused, which the arguments don't decide
 abbrev pub IsWant : NoRequest → Type 0
 IsWant (Usage text) = ⊥
 IsWant (Goal fault) = ⊥
@@ -42,11 +42,11 @@ IsWant (Groups fault) = IsMemoryRefusal fault
 IsWant (NoListing fault) = ⊥
 IsWant Memory = ⊤
 
--- options that are said have no fault
+-- options that are said have no fault, except that memory may be refused
 abbrev pub OptionsHaveNoFault : Type 0
 OptionsHaveNoFault = (rows : List Row) (o : Options) (refusal : NoRequest) → IsPartition o.groups → AreOptions rows o → OptionsFail rows refusal → IsWant refusal
 
--- so have boards that are said
+-- and so it is with boards that are said
 abbrev pub ListingsHaveNoFault : Type 0
 ListingsHaveNoFault = (rows : List Row) (l : Listing) (refusal : NoRequest) → SaysListing rows l → ListingFails rows refusal → IsWant refusal
 
@@ -60,13 +60,13 @@ GoalsAreJudgedBeforeGroups = (rows : List Row) (fault : TilesFault) (later : Gro
 abbrev pub CostsAreJudgedBeforeGroups : Type 0
 CostsAreJudgedBeforeGroups = (rows : List Row) (fault : WeightsFault) (later : GroupsFault) → OptionsFail rows (Costs fault) → ¬ OptionsFail rows (Groups later)
 
--- tables are folded, and progress and figures printed, just where the option is there
+-- tables are folded, and progress and figures printed, exactly where the option is there
 abbrev pub FlagsAreSaid : Type 0
 FlagsAreSaid =
     (rows : List Row) (o : Options)
     → AreOptions rows o
     → (IsTrue o.fold ↔ IsSet rows (codes "fold")) × (IsTrue o.progress ↔ IsSet rows (codes "progress")) × (IsTrue o.stats ↔ IsSet rows (codes "stats"))
 
--- none of this is done where there are no words
+-- none of this is done where there are no arguments
 abbrev pub FlagsAreOff : Type 0
 FlagsAreOff = (o : Options) → AreDefaults o → (o.fold ≡ false) × (o.progress ≡ false) × (o.stats ≡ false)

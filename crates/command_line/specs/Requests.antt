@@ -1,4 +1,4 @@
--- What the words of a command line ask for.
+-- What the arguments of a command line ask for.
 use Rattle.std.specs.Prelude.{ℕ, ◌≡◌, ◌≢◌, ◌≤◌, ◌⊎◌, ◌↔◌, ◌-◌, ◌^◌, false, IsTrue, List, [], ◌∷◌, Option, Some, None, codes, option_map, map, ⊤}
 use Rattle.std.specs.Str.Parse.{digits_value, without_leading_plus}
 use Rattle.clap.specs.Words.{Text, Row, App, Kinds, IsAmong, first_of, one_of, fault_of, subcommand_of}
@@ -61,7 +61,7 @@ pub record HasWorkers (rows : List Row) (n : ℕ) : Type 0 where
   pub some : 1 ≤ n
   pub few : n ≤ 16
 
--- what the values of a subcommand's options say, but for the texts of the goal, of the costs and of the groups
+-- what the values of a subcommand's options say; the texts of the goal, of the costs and of the groups are not yet read
 pub record AreValues (rows : List Row) (v : Values) : Type 0 where
   pub shape : HasShape rows v.shape
   pub goal : first_of (codes "goal") rows ≡ option_map (λ t. t.now) v.goal
@@ -117,7 +117,8 @@ pub record AreOptions (rows : List Row) (o : Options) : Type 0 where
   pub progress : IsTrue o.progress ↔ IsSet rows (codes "progress")
   pub stats : IsTrue o.stats ↔ IsSet rows (codes "stats")
 
--- why they say nothing: the fault of the goal's text; or where that has none, the fault of the costs' text; or where that has none either, the fault of the groups' text; and memory may be refused
+-- why they say nothing: the fault of the goal's text; or where that has none, the fault of the costs' text; or where that has none either, the
+-- fault of the groups' text; and memory may be refused
 abbrev pub OptionsFail : List Row → NoRequest → Type 0
 OptionsFail rows (Usage text) = ⊥
 OptionsFail rows (Goal fault) = (grid : ShapeModel) × HasShape rows grid × IsGoalFault grid (first_of (codes "goal") rows) fault
@@ -155,12 +156,12 @@ pub record SaysListing (rows : List Row) (l : Listing) : Type 0 where
   pub choice : IsChoice rows l.choice
   pub small : MayBeListed l.goal.grid l.choice
 
--- why they say no boards: `--all` isn't alone, or where it is the shape has too many cells
+-- why they say no boards: `--all` isn't alone; or it is, and the shape has too many cells
 abbrev pub IsListFault : List Row → ListFault → Type 0
 IsListFault rows NotAlone = IsSet rows (codes "all") × ((¬ IsLeftOut rows (codes "count")) ⊎ (¬ IsLeftOut rows (codes "moves")))
 IsListFault rows TooManyCells = IsChoice rows Whole × (grid : ShapeModel) × HasShape rows grid × (¬ MayBeListed grid Whole)
 
--- why they say nothing: that, or where they say boards the fault of the goal's text; and memory may be refused
+-- why they say nothing: that, or, where they say which boards, the fault of the goal's text; and memory may be refused
 abbrev pub ListingFails : List Row → NoRequest → Type 0
 ListingFails rows (Usage text) = ⊥
 ListingFails rows (Goal fault) = (grid : ShapeModel) × (choice : Choice) × HasShape rows grid × IsChoice rows choice × MayBeListed grid choice × IsGoalFault grid (first_of (codes "goal") rows) fault
@@ -169,7 +170,7 @@ ListingFails rows (Groups fault) = ⊥
 ListingFails rows (NoListing fault) = IsListFault rows fault
 ListingFails rows Memory = ⊤
 
--- ---- what words ask for
+-- ---- what arguments ask for
 
 -- the run that a subcommand and the values of its options ask for
 abbrev pub AsksRun : Option (Text × List Row) → Request → Type 0
@@ -184,7 +185,8 @@ AsksRun (Some p) (Boards l) = (p.0 ≡ codes "boards") × SaysListing p.1 l
 AsksRun (Some p) (Help text) = ⊥
 AsksRun (Some p) (Version text) = ⊥
 
--- why the values of a subcommand's options ask for no run; `check` and `upgrade`, which have no options, always ask for their own, and so does `show` unless memory is refused; `boards` has options of its own
+-- Why the values of a subcommand's options ask for no run. `check` and `upgrade`, which have no options, always ask for their own, and so does
+-- `show` unless memory is refused. `boards` has options of its own.
 abbrev pub RunFails : Option (Text × List Row) → NoRequest → Type 0
 RunFails None refusal = refusal ≡ Memory
 RunFails (Some p) refusal = (p.0 ≢ codes "check") × (p.0 ≢ codes "upgrade") × (p.0 ≡ codes "show" → refusal ≡ Memory) × (p.0 ≡ codes "boards" → ListingFails p.1 refusal) × (p.0 ≢ codes "boards" → OptionsFail p.1 refusal)
@@ -204,7 +206,8 @@ TextFails faults (Groups fault) = ⊥
 TextFails faults (NoListing fault) = ⊥
 TextFails faults Memory = ⊤
 
--- without words: boards of 3 by 3 at unit cost with Korf's goal and the default groups, whose tables are not folded, by one worker without a limit, and neither progress nor figures are printed
+-- Without arguments: boards of 3 by 3 at unit cost with Korf's goal and the default groups, whose tables are not folded, by one worker without a
+-- limit. Neither progress nor figures are printed.
 pub record AreDefaults (o : Options) : Type 0 where
   pub goal : o.goal ≡ goal_of (record { rows = 3; cols = 3 })
   pub costs : o.costs ≡ unit_rule (record { rows = 3; cols = 3 })
@@ -224,7 +227,7 @@ abbrev pub DefaultsFail : NoRequest → Type 0
 DefaultsFail (Groups fault) = IsMemoryRefusal fault
 DefaultsFail _ = ⊥
 
--- what words ask for: a text, or where a parse by the program finds no fault a run
+-- what arguments ask for: a text, or, where a parse by the program finds no fault, a run
 abbrev pub WordsAsk : List Text → Request → Type 0
 WordsAsk [] request = AsksDefaults request
 WordsAsk (word ∷ words) request =

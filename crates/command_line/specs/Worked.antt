@@ -1,4 +1,4 @@
--- Worked rows: what a parse of words by the program finds at fault. Each is the contract of a function that does nothing.
+-- Worked rows: the faults that a parse of arguments by the program finds. Each is the contract of a function that does nothing.
 use Rattle.std.specs.Prelude.{◌≡◌, [], ◌∷◌, codes}
 use Rattle.clap.specs.Words.{fault_of}
 use Rattle.clap.specs.declared.error.kind.ErrorKind.TheVariants.{ValueValidation, ArgumentConflict, UnknownArgument, DisplayHelp, DisplayVersion}
@@ -13,14 +13,14 @@ NumbersAreWithin =
     × (fault_of (program_app spreads) (codes "show" ∷ codes "--width" ∷ codes "19" ∷ []) ≡ ValueValidation ∷ [])
     × (fault_of (program_app spreads) (codes "boards" ∷ codes "--rows" ∷ codes "3" ∷ codes "--cols" ∷ codes "3" ∷ codes "--count" ∷ codes "x" ∷ []) ≡ ValueValidation ∷ [])
 
--- an option that stands twice is at fault, and so is one of another subcommand
+-- an option that is given twice is a fault, and so is one of another subcommand
 abbrev pub OptionsStandOnce : Type 0
 OptionsStandOnce =
     (spreads : Choices)
     → (fault_of (program_app spreads) (codes "solve" ∷ codes "--rows" ∷ codes "3" ∷ codes "--rows" ∷ codes "3" ∷ []) ≡ ArgumentConflict ∷ [])
     × (fault_of (program_app spreads) (codes "replay" ∷ codes "--cert" ∷ []) ≡ UnknownArgument ∷ [])
 
--- help and the version are asked for; `check` alone is at no fault, and neither are `upgrade` and `show`
+-- help and the version are asked for; `check` alone has no fault, and neither have `upgrade` and `show`
 abbrev pub TextsAreAskedFor : Type 0
 TextsAreAskedFor =
     (spreads : Choices)

@@ -1,4 +1,4 @@
-//! Why words ask for nothing.
+//! Why arguments ask for nothing.
 
 ghost use Rattle.std.specs.Prelude.{◌≡◌};
 ghost use Rattle.board.specs.Faults.{tiles_code, weights_code};
@@ -19,26 +19,26 @@ pub enum ListFault {
     TooManyCells,
 }
 
-/// Why words ask for nothing.
+/// Why arguments ask for nothing.
 #[derive(Debug, Drop)]
 pub enum NoRequest {
-    /// The words are at fault, as this text says.
+    /// The parser finds a fault of the arguments, as this text says.
     Usage(String),
-    /// The text of the goal is at fault: E2 to E4.
+    /// The text of the goal has a fault: E2 to E4.
     Goal(TilesFault),
-    /// The text of the costs is at fault: E13 or E14.
+    /// The text of the costs has a fault: E13 or E14.
     Costs(WeightsFault),
-    /// The text of the groups is at fault: E5 to E10; or there is no memory for them.
+    /// The text of the groups has a fault, E5 to E10, or there is no memory for them.
     Groups(GroupsFault),
-    /// The boards to be listed are at fault.
+    /// The boards that are asked for can't be listed.
     NoListing(ListFault),
-    /// There is no memory for the parser of the words.
+    /// There is no memory for the parser of the arguments.
     Memory,
 }
 
 impl NoRequest {
-    /// The status that the program ends by: 2 for the words, with the texts of the goal, of the
-    /// costs and of the groups among them; 4 for want of memory.
+    /// The status that the program ends by: 2 for the arguments, the texts of the goal, of the
+    /// costs and of the groups among them; 4 where memory was refused.
     pub fn status(&self) -> u8
         ensures { result ≡ refusal_status self.now }
     {

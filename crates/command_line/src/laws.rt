@@ -19,8 +19,8 @@ pub fn options_say_one_thing()
     ensures no_costs_fault { SaidCostsHaveNoFault }
 {}
 
-/// Options that are said have no fault, but that memory is refused; and neither have boards that are
-/// said.
+/// Options that are said have no fault, except that memory may be refused. The same holds for
+/// boards that are said.
 pub fn options_have_no_fault()
     ensures options { OptionsHaveNoFault }
     ensures listings { ListingsHaveNoFault }
@@ -34,7 +34,8 @@ pub fn options_are_judged_in_order()
     ensures costs_before_groups { CostsAreJudgedBeforeGroups }
 {}
 
-/// What is done just where its option is there, and by default isn't.
+/// Tables are folded, and progress and figures printed, exactly where the option is there. By
+/// default none of this is done.
 pub fn flags_are_said()
     ensures options { FlagsAreSaid }
     ensures defaults { FlagsAreOff }

@@ -15,7 +15,7 @@ use board::Shape;
 use board_lists::{Choice, MOST_CELLS};
 use clap::ArgMatches;
 
-// How many boards are listed where the words say nothing of that.
+// How many boards are listed where the arguments don't say.
 const COUNT: u64 = 10;
 
 // What the options of `boards` say. Which boards is judged first, then the goal's text.

@@ -1,4 +1,4 @@
-//! What words ask for.
+//! What arguments ask for.
 
 ghost use Rattle.std.specs.Prelude.{◌≡◌, [], IfOk, IfErr, map, string_bytes};
 ghost use Rattle.clap.specs.Words.{App, Kinds, HasKind, fault_of, subcommand_of};
@@ -21,7 +21,7 @@ use option_texts::{GroupsFault, default_groups};
 use pattern_index::Partition;
 use std::alloc::Global;
 
-// The words that `--spread` may have.
+// The values that `--spread` may have.
 static SPREADS: [&str; 2] = ["zobrist", "blank"];
 
 /// A puzzle and how it is searched.
@@ -40,20 +40,20 @@ pub struct Options {
     pub spread: SpreadKind,
     /// The most boards that are expanded for one line.
     pub limit: u64,
-    /// Whether it is told, while boards are solved, how many were expanded.
+    /// Whether the count of expanded boards is shown while boards are solved.
     pub progress: bool,
     /// Whether the figures of the search for each line are printed.
     pub stats: bool,
 }
 
-/// Which boards of which goal's class are listed.
+/// A goal, and which boards of its class are listed.
 #[derive(Clone, Copy, Debug)]
 pub struct Listing {
     pub goal: Board,
     pub choice: Choice,
 }
 
-/// What words ask for.
+/// What arguments ask for.
 #[derive(Debug, Drop)]
 pub enum Request {
     /// That boards are solved.
@@ -76,9 +76,9 @@ pub enum Request {
     Version(String),
 }
 
-/// What the words after the program's name ask for; no words at all mean
-/// `solve --rows 3 --cols 3`. Or why they ask for nothing: the words themselves are judged first,
-/// then the text of the goal, then that of the costs, then that of the groups.
+/// What the arguments after the program's name ask for; no arguments mean
+/// `solve --rows 3 --cols 3`. Or why they ask for nothing: the arguments themselves are judged
+/// first, then the text of the goal, then that of the costs, then that of the groups.
 pub fn read_words(alloc: Global, words: &[String]) -> Result<Request, NoRequest>
     ensures request { IfOk result (WordsAsk (map string_bytes words.now)) }
     ensures refusal { IfErr result (WordsFail (map string_bytes words.now)) }
@@ -96,7 +96,7 @@ pub fn read_words(alloc: Global, words: &[String]) -> Result<Request, NoRequest>
     run_in(alloc, &matches)
 }
 
-// The options where there are no words.
+// The options where there are no arguments.
 fn default_options(alloc: Global) -> Result<Options, OutOfMemory>
     ensures { IfOk result AreDefaults }
 {
@@ -115,7 +115,7 @@ fn default_options(alloc: Global) -> Result<Options, OutOfMemory>
     })
 }
 
-// What the parser makes of the words.
+// What the parser makes of the arguments.
 fn matches_of<'a>(alloc: Global, words: &'a [String]) -> Result<ArgMatches<'a>, Error>
     ensures matches { IfOk result (λ matches. (program : App) × IsProgram program
         × (fault_of program (map string_bytes words.entry.now) ≡ [])

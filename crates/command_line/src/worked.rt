@@ -1,4 +1,4 @@
-//! Worked rows of the definitions: what a parse of words by the program finds at fault.
+//! Worked rows of the definitions: the faults that a parse of arguments by the program finds.
 
 ghost use Rattle.command_line.specs.Worked.{NumbersAreWithin, OptionsStandOnce, TextsAreAskedFor};
 
@@ -8,13 +8,13 @@ pub fn numbers_are_within()
     ensures { NumbersAreWithin }
 {}
 
-/// An option that stands twice is at fault, and so is one of another subcommand.
+/// An option that is given twice is a fault, and so is one of another subcommand.
 #[tactic(auto, using(clap::proofs::OnLiterals::clap_on_literals), unfolding(clap::proofs::OnLiterals::clap_on_literals))]
 pub fn options_stand_once()
     ensures { OptionsStandOnce }
 {}
 
-/// Help and the version are asked for; `check` alone is at no fault, and neither are `upgrade` and
+/// Help and the version are asked for; `check` alone has no fault, and neither have `upgrade` and
 /// `show`.
 #[tactic(auto, using(clap::proofs::OnLiterals::clap_on_literals), unfolding(clap::proofs::OnLiterals::clap_on_literals))]
 pub fn texts_are_asked_for()

@@ -52,7 +52,7 @@ slot_back g v view =
     ap (λ k. sparse_of (digit_base g.grid) (list_at (cell_count g.grid) k (rank_in g.grid v))) long
     ∙ ap (sparse_of (digit_base g.grid)) (list_back (cell_count g.grid) (v.blank ∷ v.cells) (listing g.grid g.tiles v view) (view_room g v view))
 
--- a view has what stands at its slot
+-- the entry of a view is that at its slot
 pub by_rank_at : (g : GroupModel) (at_slot : ℕ → ℕ) (v : ViewModel) → IsView g.grid g.tiles v → slice_index (by_rank g at_slot) (rank_in g.grid v) ≡ at_slot (slot_in g.grid v)
 unfolding by_rank
 by_rank_at g at_slot v view =
@@ -79,7 +79,7 @@ one_form size limit values (Words a) (Ranked b) is is' = is' is.0
 one_form size limit values (Words a) (Bytes b) is is' = is.1 is'.1
 one_form size limit values (Words a) (Words b) is is' = tt
 
--- what a byte stands for is at most NO_VALUE
+-- the value that a byte encodes is at most NO_VALUE
 widened_high : (byte : ℕ) → byte ≤ NO_VALUE → widened byte ≤ NO_VALUE
 widened_high byte low =
     ⊎_elim
@@ -87,7 +87,7 @@ widened_high byte low =
     (λ (other : eqb byte 255 ≡ false). let e : widened byte ≡ byte = cond-false (eqb byte 255) NO_VALUE byte other in omega (arith, e, low))
     (cases_Bool (eqb byte 255))
 
--- a value for which a byte can stand is what that byte stands for
+-- a value that a byte can encode is read back from that byte
 widened_back : (value : ℕ) → (value < 255) ⊎ (value ≡ NO_VALUE) → widened (min value 255) ≡ value
 widened_back value small =
     ⊎_elim
@@ -144,7 +144,7 @@ module _ (table : TableModel) (g : GroupModel) (entries : Entries) (is : record 
     within : slot < slot_count_of g
     within = let low = slot_below g v of_group in omega (arith, low, there)
 
-    -- something stands there
+    -- there is a byte at the slot
     pub bytes_within : (bytes : Vec ℕ Global) → entries ≡ Bytes bytes → slot < length bytes.items
     bytes_within bytes kept =
         let all : length bytes.items ≡ slot_count_of g = subst (HasEntries g) kept has in
@@ -181,7 +181,7 @@ module _ (table : TableModel) (g : GroupModel) (entries : Entries) (is : record 
 
 -- ---- slots that are filled
 
--- elements at places, of which there may be none, that are the same are the same with the default
+-- two elements that are the same, or both missing, are the same with the default
 same_index : (xs ys : List ℕ) (i j : ℕ) → slice_get xs i ≡ slice_get ys j → slice_index xs i ≡ slice_index ys j
 same_index xs ys i j same = sym (unwrap_or-slice_get xs i 0) ∙ ap (λ (o : Option ℕ). unwrap_or o 0) same ∙ unwrap_or-slice_get ys j 0
 
@@ -241,7 +241,7 @@ written_again {A} g least was new items filler len count size long is copies cou
     subst (λ (xs : List A). AreAllWritten g least xs (take len (new ++ drop (length new) items))) start
     (subst (λ (xs : List A). AreAllWritten g least was xs) (sym (all_written len new was items long is written.size)) written)
 
--- what a byte that was kept for a value stands for
+-- a value is read back from the byte that was kept for it
 byte_back :
     (values narrow bytes : List ℕ) (i j : ℕ)
     → j < length values
@@ -257,7 +257,7 @@ byte_back values narrow bytes i j low small narrowed is =
     ∙ widened_back (slice_index values j) (small j 0 low)
 
 module _ (g : GroupModel) (r : Regions) (regions : IsRegions g.grid (length g.tiles) r) (v : ViewModel) (view : IsView g.grid g.tiles v) where
-  -- the tiles of a view stand on different cells
+  -- the tiles of a view are on different cells
   pub view_placed : IsPlaced r.shape r.count v.cells
   view_placed = record {
     listing = subst (λ n. IsListing n v.cells) (sym (ap cell_count regions.shape)) (place_listing g.grid g.tiles v view);
@@ -295,7 +295,7 @@ module _ (g : GroupModel) (r : Regions) (regions : IsRegions g.grid (length g.ti
     pub words_kept : (words : List ℕ) → slice_get words (slot_in g.grid v) ≡ slice_get nodes (node_in r v) → slice_index (by_rank g (slice_index words)) (rank_in g.grid v) ≡ slice_index nodes (node_in r v)
     words_kept words is = by_rank_at g (slice_index words) v view ∙ same_index words nodes (slot_in g.grid v) (node_in r v) is
 
-    -- bytes at slots stand for the values of nodes, where one can for each
+    -- bytes at slots encode the values of nodes, where a byte can encode each
     pub bytes_kept :
         (narrow bytes : List ℕ)
         → length nodes ≡ node_count r
@@ -309,13 +309,13 @@ module _ (g : GroupModel) (r : Regions) (regions : IsRegions g.grid (length g.ti
 
 -- ---- what a folded table keeps
 
--- what stands in a list of copies is what was copied
+-- an item of a list of copies is what was copied
 pub replicated : {A : Type 0} (n i : ℕ) (a x : A) → slice_get (replicate n a) i ≡ Some x → x ≡ a
 replicated n i a x is =
     let low = slice_get_within (replicate n a) i x is in
     sym (get_or_from_slice_get (replicate n a) i x a is) ∙ get_or-replicate n i a a (let all = length-replicate n a in omega (arith, all, low))
 
--- where no view has a place that was not written, what was there is there
+-- a sparse place that no view has keeps the filler
 pub others_kept : {A : Type 0} (g : GroupModel) (least places : List A) (filler : A) → AreAllWritten g least (replicate (sparse_size_of g) filler) places → (sparse : ℕ) (entry : A) → HasNoView g sparse → slice_get places sparse ≡ Some entry → entry ≡ filler
 others_kept g least places filler written sparse entry none is = replicated (sparse_size_of g) sparse filler entry (sym (written.others sparse none) ∙ is)
 
@@ -345,7 +345,7 @@ module _ (g : GroupModel) (v : ViewModel) (view : IsView g.grid g.tiles v) where
         → slice_index (by_place g (slice_index words)) (place_in g.grid v) ≡ slice_index least (placement_in (length g.tiles) v.cells)
     words_least words is = by_place_at g (slice_index words) v view ∙ same_index words least (sparse_in g.grid v) (placement_in (length g.tiles) v.cells) is
 
-    -- bytes at sparse places stand for them, where one can for each
+    -- bytes at sparse places encode them, where a byte can encode each
     pub bytes_least :
         (narrow bytes : List ℕ)
         → length least ≡ placement_count (cell_count g.grid) (length g.tiles)

@@ -40,7 +40,7 @@ pub length-by_place : (g : GroupModel) (at_sparse : ℕ → ℕ) → length (by_
 unfolding by_place
 length-by_place g at_sparse = length-map-range_with_len (λ place. at_sparse (sparse_of_place g place)) 0 (folded_size_of g)
 
--- a place has what stands at its sparse place
+-- the entry of a place is that at its sparse place
 pub by_place_entry : (g : GroupModel) (at_sparse : ℕ → ℕ) (place : ℕ) → place < folded_size_of g → slice_index (by_place g at_sparse) place ≡ at_sparse (sparse_of_place g place)
 unfolding by_place
 by_place_entry g at_sparse place low = get_or-map-range_with_len (λ k. at_sparse (sparse_of_place g k)) 0 (folded_size_of g) place place 0 low (omega arith)
@@ -60,7 +60,7 @@ place_back g v view =
     ap (λ k. sparse_of (cell_count g.grid) (list_at (cell_count g.grid) k (place_in g.grid v))) (sym view.one_each)
     ∙ ap (sparse_of (cell_count g.grid)) (list_back (cell_count g.grid) v.cells (place_listing g.grid g.tiles v view) (cells_room g v view))
 
--- a view has what stands at its sparse place
+-- the entry of a view is that at its sparse place
 pub by_place_at : (g : GroupModel) (at_sparse : ℕ → ℕ) (v : ViewModel) → IsView g.grid g.tiles v → slice_index (by_place g at_sparse) (place_in g.grid v) ≡ at_sparse (sparse_in g.grid v)
 by_place_at g at_sparse v view = by_place_entry g at_sparse (place_in g.grid v) (place_below g.grid g.tiles v view) ∙ ap at_sparse (place_back g v view)
 
@@ -82,7 +82,7 @@ view_below g v view =
 
 -- ---- what a folded table keeps
 
--- what a byte stands for is at most NO_VALUE
+-- the value that a byte encodes is at most NO_VALUE
 byte_high : (byte : ℕ) → byte ≤ NO_VALUE → widened byte ≤ NO_VALUE
 byte_high byte low =
     ⊎_elim
@@ -96,7 +96,7 @@ least_size g (Ranked least) has = has.1
 least_size g (Bytes bytes) has = length-by_place g (λ sparse. widened (slice_index bytes.items sparse))
 least_size g (Words words) has = length-by_place g (slice_index words.items)
 
--- what stands at an index that is in
+-- the item at an index within the list
 indexed : (xs : List ℕ) (i x : ℕ) → i < length xs → x ≡ get_or xs i x → slice_get xs i ≡ Some x
 indexed xs i x within read = slice_get-get_or xs i x within ∙ ap (λ (n : ℕ). Some n) (sym read)
 

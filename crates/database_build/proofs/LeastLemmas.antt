@@ -60,7 +60,7 @@ least_none r nodes cells = record {
   none_below = λ b lt free. absurd (omega (arith, lt));
 }
 
--- a tile stands there
+-- a tile is there
 pub least_pass : (r : Regions) (nodes cells : List ℕ) (blank least : ℕ) → Contains cells blank → IsLeastTo r nodes cells blank least → IsLeastTo r nodes cells (blank + 1) least
 least_pass r nodes cells blank least has so_far = record {
   reached = so_far.reached;
@@ -70,7 +70,7 @@ least_pass r nodes cells blank least has so_far = record {
       (⊎_elim (λ (less : b < blank). less) (λ (more : blank ≤ b). let e : blank ≡ b = omega (arith, lt, more) in absurd (free (subst (λ k. Contains cells k) e has))) (cases_lt b blank)) free;
 }
 
--- the blank can stand there
+-- the blank can be there
 pub least_more : (r : Regions) (nodes cells : List ℕ) (blank least value less : ℕ) → IsFree r.shape cells blank → value ≡ node_value r nodes (blank ∷ cells) → less ≡ min least value → IsLeastTo r nodes cells blank least → IsLeastTo r nodes cells (blank + 1) less
 least_more r nodes cells blank least value less free is min_is so_far =
     ⊎_elim
@@ -172,7 +172,7 @@ module _ (r : Regions) (nodes : List ℕ) (n set : ℕ) (regions : IsRegions r.s
           least_pass r nodes cells blank (slice_index row (order_of cells)) ((same_cells cells placed place blank).1 has) (lowered.values cells placed place);
     }
 
-    -- the blank can stand there
+    -- the blank can be there
     module _ (inside : blank < n) (off : slice_index_or marks blank false ≡ false) where
       out : ¬ Contains listed blank
       out has = false≢true (sym off ∙ (are blank).1 (subst (λ (ys : List ℕ). Contains ys blank) (sym is) has))
@@ -307,21 +307,21 @@ module _ (r : Regions) (nodes least : List ℕ) (set orders : ℕ) (orders_are :
         let e = length-drop (set * orders) least in
         omega (arith, within, f, a, b, d, e, long, orders_are)
 
-    -- what stands before the row
+    -- what is before the row
     put_before : (i : ℕ) → i < set * orders → slice_index put i ≡ slice_index least i
     put_before i less =
         let f = front in
         get_or_append_left (take (set * orders) least) (row ++ drop orders (drop (set * orders) least)) 0 i (omega (arith, f, less))
         ∙ get_or-take (set * orders) least i 0 less
 
-    -- what stands in it
+    -- what is in it
     put_in : (p : ℕ) → p < orders → slice_index put (set * orders + p) ≡ slice_index row p
     put_in p less =
         ap (λ k. slice_index put (k + p)) (sym front)
         ∙ get_or-append-add (take (set * orders) least) (row ++ drop orders (drop (set * orders) least)) p 0
         ∙ get_or_append_left row (drop orders (drop (set * orders) least)) 0 p (omega (arith, less, long, orders_are))
 
-    -- what stands behind it
+    -- what is behind it
     put_after : (i : ℕ) → set * orders + orders ≤ i → slice_index put i ≡ slice_index least i
     put_after i more =
         let within = row_within in
@@ -515,7 +515,7 @@ blank_view grid numbers tiles cells marks blank end group long written is_placed
 pub blank_kept : (grid : ShapeModel) (numbers tiles cells : List ℕ) (blank : ℕ) → AreGroupTiles grid tiles → length numbers ≡ 25 → map (slice_index numbers) tiles ≡ cells → map (slice_index (set numbers 0 blank)) tiles ≡ cells
 blank_kept grid numbers tiles cells blank group long written = ap (λ (v : ViewModel). v.cells) (blank_put grid numbers tiles cells blank group (omega (arith, long)) written)
 
--- ---- the least value over the blank's places
+-- ---- the least value over the blank's cells
 
 -- a view with the tiles on these cells has this value
 abbrev pub HasView : TableModel → List ℕ → ℕ → Type 0
@@ -526,7 +526,7 @@ pub record IsLeastBefore (table : TableModel) (cells : List ℕ) (blank least : 
   pub reached : (least ≡ 65535) ⊎ HasView table cells least
   pub none_below : (w : ViewModel) → IsView table.selection.grid table.selection.tiles w → w.cells ≡ cells → w.blank < blank → least ≤ value_in table w
 
--- a tile stands there
+-- a tile is there
 pub before_pass : (table : TableModel) (cells : List ℕ) (blank least : ℕ) → Contains cells blank → IsLeastBefore table cells blank least → IsLeastBefore table cells (blank + 1) least
 before_pass table cells blank least has so_far = record {
   reached = so_far.reached;
@@ -540,7 +540,7 @@ before_pass table cells blank least has so_far = record {
       (cases_lt w.blank blank);
 }
 
--- the blank can stand there
+-- the blank can be there
 pub before_more :
     (table : TableModel) (cells : List ℕ) (blank least value less : ℕ) (u : ViewModel)
     → IsView table.selection.grid table.selection.tiles u
@@ -626,7 +626,7 @@ module _ (g : GroupModel) (n count set end : ℕ) (written rest : List ℕ) (sel
 
 -- ---- the placements on one set
 
--- behind the old values stand those of the orders before one
+-- behind the old values are those of the orders before one
 pub record AreAddedTo (table : TableModel) (cells old : List ℕ) (order : ℕ) (new : List ℕ) : Type 0 where
   pub size : length new ≡ length old + order
   pub kept : (i : ℕ) → i < length old → slice_index new i ≡ slice_index old i

@@ -11,7 +11,7 @@ use Rattle.database_build.specs.declared.entries.Entries.TheVariants.{Ranked, By
 use Rattle.pattern_search.specs.declared.finding.TheConstants.{NO_VALUE}
 use Rattle.database_build.specs.declared.folding.TheConstants.{MOST_PLACES, PLACES_A_VALUE}
 
--- the value that a byte stands for: 255 stands for NO_VALUE
+-- the value that a byte encodes: 255 encodes `NO_VALUE`
 abbrev pub widened : ℕ → ℕ
 widened byte = if byte == 255 then NO_VALUE else byte
 
@@ -19,7 +19,7 @@ widened byte = if byte == 255 then NO_VALUE else byte
 abbrev pub slot_of_rank : GroupModel → ℕ → ℕ
 slot_of_rank g rank = sparse_of (digit_base g.grid) (list_at (cell_count g.grid) (suc (length g.tiles)) rank)
 
--- what stands at the slots of all views, by rank
+-- the entries at the slots of all views, by rank
 unfoldable pub by_rank : GroupModel → (ℕ → ℕ) → List ℕ
 by_rank g at_slot = map (λ rank. at_slot (slot_of_rank g rank)) (range_with_len 0 (size_of g))
 
@@ -35,7 +35,7 @@ HasEntries g (Ranked values) = length values.items ≡ size_of g
 HasEntries g (Bytes bytes) = length bytes.items ≡ slot_count_of g
 HasEntries g (Words words) = length words.items ≡ slot_count_of g
 
--- each value fits a byte, or is NO_VALUE
+-- each value is below 255, or is `NO_VALUE`
 abbrev pub AreSmall : List ℕ → Type 0
 AreSmall values = All (λ value. (value < 255) ⊎ (value ≡ NO_VALUE)) values
 
@@ -73,7 +73,7 @@ least_in g (Ranked least) = least.items
 least_in g (Bytes bytes) = by_place g (λ sparse. widened (slice_index bytes.items sparse))
 least_in g (Words words) = by_place g (slice_index words.items)
 
--- how many sparse places may be kept of a group: `MOST_PLACES`, and no more than `PLACES_A_VALUE` for each value
+-- the most sparse places that are kept of a group: the smaller of `MOST_PLACES` and `PLACES_A_VALUE` for each value
 abbrev pub most_places : GroupModel → ℕ
 most_places g = min MOST_PLACES (PLACES_A_VALUE * folded_size_of g)
 
@@ -81,7 +81,7 @@ most_places g = min MOST_PLACES (PLACES_A_VALUE * folded_size_of g)
 abbrev pub HasFewPlaces : GroupModel → Type 0
 HasFewPlaces g = sparse_size_of g ≤ most_places g
 
--- there is an entry for each sparse place, and what is there where no view is says that there is no value
+-- there is an entry for each sparse place, and it is `none` for those that no view has
 pub record ArePlaces (g : GroupModel) (none : ℕ) (entries : List ℕ) : Type 0 where
   pub few : sparse_size_of g ≤ most_places g
   pub size : length entries ≡ sparse_size_of g

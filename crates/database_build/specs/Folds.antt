@@ -1,4 +1,4 @@
--- Folded tables: for each way in which a group's tiles can stand, the least value over the blank's places.
+-- Folded tables: for each way to place a group's tiles, the least value over the blank's cells.
 use Rattle.std.specs.Prelude.{ℕ, ◌≡◌, ◌≤◌, List, length, slice_index, ◌+◌, ◌<◌, ◌∷◌}
 use Rattle.board.specs.Boards.{BoardModel}
 use Rattle.board.specs.Weights.{WeightsModel}
@@ -13,7 +13,7 @@ use Rattle.pattern_graph.specs.Orders.{order_of}
 use Rattle.pattern_graph.specs.Sets.{AreSame}
 use Rattle.database_build.specs.Tables.{TableModel, HoldsValues, value_in}
 
--- A group, and an entry for each way in which its tiles can stand, by place.
+-- A group, and an entry for each way to place its tiles, by place.
 pub record FoldedModel : Type 0 where
   pub selection : GroupModel
   pub least : List ℕ
@@ -54,7 +54,7 @@ pub record AreLeastOf (table : TableModel) (least : List ℕ) : Type 0 where
   pub size : length least ≡ placement_count (cell_count table.selection.grid) (length table.selection.tiles)
   pub values : (v : ViewModel) → IsView table.selection.grid table.selection.tiles v → IsFoldedValue table v (slice_index least (placement_in (length table.selection.tiles) v.cells))
 
--- behind the old values stand those of the placements on a set of cells, by order
+-- behind the old values are those of the placements on a set of cells, by order
 pub record AreLeastAdded (table : TableModel) (cells old new : List ℕ) : Type 0 where
   pub size : length new ≡ length old + factorial (length table.selection.tiles)
   pub kept : (i : ℕ) → i < length old → slice_index new i ≡ slice_index old i

@@ -28,7 +28,7 @@ pub(crate) const MOST_SLOTS: usize = 33_554_432;
 pub(crate) enum Entries {
     // The values of views, by rank.
     Ranked(Vec<u16>),
-    // By slot, as bytes: 255 stands for `NO_VALUE`.
+    // By slot, as bytes: 255 encodes `NO_VALUE`.
     Bytes(Vec<u8>),
     // By slot.
     Words(Vec<u16>),
@@ -62,7 +62,7 @@ pub(crate) fn keep_values(
     Ok(Entries::Bytes(bytes))
 }
 
-// What views have at their slots, where what nodes have is given.
+// The slots of views, each with what the view's node has in `nodes`.
 fn fill_slots<T: Copy>(
     alloc: Global,
     group: &Group,
@@ -112,7 +112,7 @@ fn has_many_places(group: &Group) -> bool
     group.sparse_size() > MOST_PLACES.min(PLACES_A_VALUE * group.folded_size())
 }
 
-// What placements have at their sparse places, where what they have is given.
+// The sparse places of placements, each with what the placement has in `least`.
 fn fill_places<T: Copy>(
     alloc: Global,
     group: &Group,
@@ -130,7 +130,7 @@ fn fill_places<T: Copy>(
     Ok(places)
 }
 
-// Whether a byte can stand for each value.
+// Whether a byte can encode each value.
 fn are_small(values: &[u16]) -> bool
     ensures { IsTrue result ↔ AreSmall values.now }
 {
@@ -142,7 +142,7 @@ fn are_small(values: &[u16]) -> bool
     true
 }
 
-// The bytes that stand for values.
+// The bytes that encode values.
 fn narrow_all(alloc: Global, values: &[u16]) -> Result<Vec<u8>, OutOfMemory>
     requires { length values.now ≤ 2 ^ 27 }
     ensures { IfOk result (λ bytes. bytes.items ≡ map (λ value. min value 255) values.now) }

@@ -28,12 +28,12 @@ pub const MOST_PLACES: usize = 16_777_216;
 /// How many sparse places such a group has for each of its values at most.
 pub const PLACES_A_VALUE: usize = 4;
 
-/// For each way in which a group's tiles can stand, the least value of the views that show them so.
+/// For each way to place a group's tiles, the least value of the views that show them so.
 #[derive(Debug, Drop)]
 pub struct Folded {
     group: Group,
     entries: Entries,
-    // Of each number whether it is a tile of the group.
+    // Whether each number is a tile of the group.
     marks: [bool; 25],
     // The stride of each number that may be a tile.
     strides: [usize; 25],
@@ -188,8 +188,8 @@ impl Folded {
     }
 }
 
-/// The folded table: for each way in which the tiles can stand, the least value over the blank's
-/// places (Korf, Felner 2002).
+/// The folded table: for each way to place the tiles, the least value over the blank's cells (Korf,
+/// Felner 2002).
 pub fn fold(alloc: Global, table: Table) -> Result<Folded, OutOfMemory>
     ensures { IfOk result (IsFoldOf table) }
 {

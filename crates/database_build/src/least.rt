@@ -125,7 +125,8 @@ fn add_orders(
     Ok(())
 }
 
-// The least value that a table has of the views with the tiles on these cells, wherever the blank is.
+// The least value that a table has of the views with the tiles on these cells, wherever the blank
+// is.
 fn least_value(table: &Table, cells: &[u8], marks: &[bool; 25]) -> u16
     requires { AreMarkedCells table.now.selection.grid (length table.now.selection.tiles) cells.now
         marks.now }

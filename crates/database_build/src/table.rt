@@ -203,7 +203,7 @@ fn rank_of_digits(base: usize, group: &Group, slot: usize) -> usize
     group.rank_at(&cells)
 }
 
-// The value that a byte stands for.
+// The value that a byte encodes.
 pub(crate) fn widened(byte: u8) -> u16
     ensures { result ≡ widened byte }
 {

@@ -37,7 +37,8 @@ pub(crate) fn pictures_of(
         × Leads certificate.now.costs certificate.now.start plan certificate.now.goal k) }
     ensures { IfOk result (λ pictures. ArePictures certificate.now pictures.items) }
 {
-    // What holds of every certificate, as that its boards are of one shape, is said by this call.
+    // The contract of this call says what holds of every certificate, such as that its boards are
+    // of one shape.
     let _ = certificate.shape();
     let start = certificate.start();
     let mut pictures = Vec::new(alloc);

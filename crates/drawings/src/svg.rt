@@ -260,7 +260,7 @@ fn letter_text(direction: Move) -> &'static str {
 
 // Where a cell is on its board.
 fn place_of(shape: Shape, cell: usize) -> Place {
-    // That no side is 0 is said by this call.
+    // The contract of this call says that no side is 0.
     let _ = shape.cells();
     let cols = shape.cols() as usize;
     Place {

@@ -1,5 +1,6 @@
-//! What workers in threads answer of a board that is as far from the goal as one of 3 by 3 can be:
-//! how often its cost, by one worker and by more, and how often the world of joined threads is kept.
+//! What workers in threads answer of a board that is as far from the goal as one of 3 by 3 can be.
+//! Counts the runs by one worker and by more that find its cost, and the runs by threads alone that
+//! find it in a world that is kept.
 
 ghost use Rattle.lower_bound.specs.Tables.{ArePotentials};
 
@@ -19,7 +20,7 @@ const COST: u32 = 31;
 // How many workers solve it without tables.
 const WORKERS: [usize; 4] = [1, 2, 3, 16];
 
-// So often each count of workers solves it by each spread with these tables.
+// How often each count of workers solves it by each spread with these tables.
 const RUNS: u64 = 5;
 
 // How many runs found the cost: with rows that the checker accepts, and without rows.
@@ -61,7 +62,7 @@ fn print_kept<R: Threads + Wait + Print + AllocGlobal + Sync>(rt: &R) -> io::Res
     )
 }
 
-// The same of these workers, whom tables of these groups guide, in so many runs.
+// The same of these workers, whom tables of these groups guide, in this many runs.
 fn print_both<R: Threads + Wait + Print + AllocGlobal + Sync>(
     rt: &R,
     workers: usize,

@@ -1,12 +1,12 @@
 //! What replays read and write, in the order of time.
 //!
-//! The input has paragraphs with an empty line between two. One that begins with `#` is a
-//! comment. Each other one is a replay: words that say its setup, and then the lines of its input.
-//! In these a `\` and two hexadecimal digits stand for a byte, and a `\` at the end takes the line
-//! feed away.
+//! The input has paragraphs with an empty line between two. One that begins with `#` is a comment.
+//! Each other one is a replay: words that say its setup, and then the lines of its input. In these
+//! a `\` and two hexadecimal digits mean a byte, and a `\` at the end takes the line feed away.
 //!
-//! What is printed is the words, each line of the input behind `< ` when it is begun to be read,
-//! what the replay passes on behind `> ` when it flushes, and the status or the code of the fault.
+//! For each replay its words are printed, and each line of the input behind `< ` when its first
+//! byte is read. What the replay writes is printed behind `> ` when it flushes, and what it never
+//! flushed behind `? `. The status or the code of the fault comes last.
 
 mod setups;
 mod streams;

@@ -63,7 +63,7 @@ no_list last (Some stop_kinds.Limit) ends = λ e. absurd (cc)
 no_list last (Some (stop_kinds.Memory want)) ends = λ e. let is = ends.1 in absurd (cc)
 no_list last (Some stop_kinds.Start) ends = absurd ends
 
--- a want of memory is stated only where a list of steps stopped the run for it
+-- a bound has the cause `Memory Stated` only where a list of steps stopped the run for it
 pub never_stated : (w : WorldState) → w.book.stop ≢ Some (stop_kinds.Memory Stated) → (bound : ℕ) (best : Option (ℕ × Vec Move Global)) (cause : Cause) → IsBounded w bound best cause → cause ≢ Memory Stated
 never_stated w stop bound best cause given is = split (memory_bounded w bound best Stated (subst (IsBounded w bound best) is given))
   where
@@ -107,7 +107,7 @@ one_class b q =
     let right = taxicab b.grid (blank_of b) (blank_of q) % 2 in
     decided (left == right) (Decides-eqb left right)
 
--- those that are not told apart are of one
+-- boards that are not found apart are of one class
 pub not_apart : (b q : BoardModel) (apart : Bool) → (IsTrue apart ↔ (¬ SameClass b q)) → apart ≡ false → SameClass b q
 not_apart b q apart tells same = by_class (one_class b q)
   where

@@ -47,11 +47,11 @@ one_more {A} IsOf xs k here x y z at before more =
 pub all_first : {A : Type 0} (IsOf : A → ℕ → Type 0) (xs : List A) (x y : Option ℕ) → IsLeastBeside (IsOfFirst (length xs) IsOf xs) x y → IsLeastBeside (IsOfOne IsOf xs) x y
 all_first IsOf xs x y = beside_same (IsOfFirst (length xs) IsOf xs) (IsOfOne IsOf xs) (λ n p. (p.0, p.1, p.3, p.4)) (λ n p. (p.0, p.1, slice_get_within xs p.0 p.1 p.2, p.2, p.3)) x y
 
--- what stands at a place is one of the list
+-- what is at a place is one of the list
 pub one_of : {A : Type 0} (xs : List A) (i : ℕ) (x : A) → slice_get xs i ≡ Some x → Contains xs x
 one_of xs i x at = subst (Contains xs) (get_or_from_slice_get xs i x x at) (Contains-get_or xs i x (slice_get_within xs i x at))
 
--- what a mapped list has at a place, it has of what stands there
+-- what a mapped list has at a place is made of what the list has there
 of_some : {A B : Type 0} (f : A → B) (o : Option A) (y : B) → option_map f o ≡ Some y → (x : A) × (o ≡ Some x) × (f x ≡ y)
 of_some f None y e = absurd (none-some y e)
 of_some f (Some x) y e = (x, refl, search e)
@@ -66,7 +66,7 @@ map_at f xs i x at = slice_get-map f xs i ∙ ap (option_map f) at
 abbrev pub lanes_in : List (Vec Lane Global) → List (List Lane)
 lanes_in rows = map (λ (to_each : Vec Lane Global). to_each.items) rows
 
--- one of a list stands at some place
+-- one of a list is at some place
 pub place_of : {A : Type 0} (xs : List A) (x : A) → Contains xs x → (i : ℕ) × (slice_get xs i ≡ Some x)
 place_of xs x has = (has.0, slice_get_read xs (length xs) has.0 x refl has.1 (sym has.2))
 

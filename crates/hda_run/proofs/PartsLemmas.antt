@@ -190,13 +190,13 @@ module _ {S : Type 0} (owner_of : S → ℕ → BoardModel → ℕ) (parts : Par
     guided_after worker' stays all_guided =
         set_guided worker' (subst (λ (x : ContextModel S). StaysGuided x worker.lists worker'.lists) lent stays parts.job.start (guide_of (task_in parts.job))) all_guided
 
--- ---- a world of which a worker and a lane have changed
+-- ---- a world where a worker and a lane have changed
 
 -- the lanes of one worker
 abbrev pub Row : Type 0
 Row = Vec Lane Global
 
--- what was read at a place stands there
+-- what was read at a place is there
 there : {X : Type 0} (xs : List X) (i : ℕ) (x : X) → i < length xs → x ≡ get_or xs i x → slice_get xs i ≡ Some x
 there [] i x lt is = absurd (omega (arith, lt))
 there (y ∷ xs) zero x lt is = ap Some (sym is)
@@ -314,6 +314,6 @@ lawful_opening owner_of parts job via law is same guided =
       guided = guided;
     }
 
--- so many workers, some but not too many, have a job where the task is one
+-- n workers, some but not too many, have a job where the task is one
 pub is_job : {S : Type 0} (owner_of : S → ℕ → BoardModel → ℕ) → AreWorkers owner_of → (owners : S) (p : JobModel) (n : ℕ) → IsTask (task_in p) → IsWorkerCount n → IsJob (job_of owner_of p owners n)
 is_job owner_of are_workers owners p n task count = record { task = task; some = count.0; few = count.1; owners = λ b. are_workers owners n b count.0 }

@@ -1,4 +1,4 @@
--- The nine kinds of steps, and the workers that they are by.
+-- The nine kinds of steps, and the workers that take them.
 use Rattle.std.specs.Prelude.{ℕ, ◌≡◌, ◌≤◌, ◌⊎◌}
 use Rattle.world_model.specs.declared.steps.Step.{Step}
 use Rattle.world_model.specs.declared.steps.Step.TheVariants as steps

@@ -37,7 +37,7 @@ use Rattle.hda_run.specs.declared.parts.Parts.{Parts}
 
 -- ---- one worker alone
 
--- where no bound is told though a board is open, the goal is known
+-- in a world without a bound where a board is open, the goal is known
 abbrev pub WithoutABoundTheGoalIsKnown : Type 0
 WithoutABoundTheGoalIsKnown = (w : WorldState) (b : BoardModel) (cost : ℕ) → IsWithoutBound w → IsInFrontier w b cost → (known : Known) × Knows w 0 w.task.goal known
 
@@ -61,7 +61,7 @@ BoundsAreOfTheirWorlds {S} owner_of =
 abbrev pub RunsAloneStop : Type 0
 RunsAloneStop = (job : Job) (w : WorldState) → IsRunAlone job w → (w.book.stop ≢ None) × (w.book.stop ≢ Some stops.Start)
 
--- where it is quiet, steps of which none is a halt lead to it from the opening world
+-- where it is quiet, steps without a halt lead to it from the opening world
 abbrev pub QuietRunsHaveNoHalt : Type 0
 QuietRunsHaveNoHalt =
     (job : Job) (w : WorldState)
@@ -101,7 +101,7 @@ OptimalTruthsAgree =
     → TellsTruth p (Optimal d plan' rows')
     → c ≡ d
 
--- and no bound that tells it is above that cost
+-- and no bound of an outcome that tells the truth is above that cost
 abbrev pub BoundTruthsAreBelow : Type 0
 BoundTruthsAreBelow =
     (p : JobModel) (c bound : ℕ) (plan : Vec Move Global) (rows : Vec (BoardModel × ℕ) Global) (best : Option (ℕ × Vec Move Global)) (cause : Cause) (below : Option (Vec (BoardModel × ℕ) Global))

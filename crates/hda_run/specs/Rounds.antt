@@ -32,7 +32,7 @@ pub record IsLone (w : WorldState) : Type 0 where
   pub shaped : IsShaped w
   pub credited : IsCredited w
 
--- some steps, none of which is to halt the run, lead from one world to another, where the worker is alone still
+-- steps without a halt lead from one world to another, where the worker is still alone
 pub record Reaches (w w' : WorldState) : Type 0 where
   pub made : List (Step × Option Refusal)
   pub run : IsRun w made w'

@@ -46,8 +46,8 @@ enum End {
 }
 
 /// Solves a job by one worker, in the calling thread: it expands the boards itself, and waits for
-/// nobody. A start that isn't in the goal's class is answered without a search. Memory is refused
-/// where there is none for the opening world; what is refused later is told by the outcome.
+/// nobody. A start that isn't in the goal's class is answered without a search. The error is that
+/// memory was refused for the opening world. The outcome says what was refused later.
 pub fn solve_one<'a, S: Spread, G: Gate>(
     alloc: Global,
     job: Job<'a>,
@@ -183,8 +183,8 @@ fn show_lists<S: Spread, G: Gate>(world: &World<'_, S>, gate: &G, known: usize)
     }
 }
 
-// A cost that no plan undercuts: the least f of what waits. None where the goal is known, to which a
-// plan may cost less than that, or where no board is open.
+// A cost that no plan undercuts: the least f of what waits. None where the goal is known, to which
+// a plan may cost less than that, or where no board is open.
 fn bound_of<S: Spread>(world: &World<'_, S>) -> Option<u32>
     requires { IsLone (world_of S.owner_of world.now) }
     ensures { IsBoundSoFar S.owner_of world.now result }

@@ -43,7 +43,7 @@ impl<'a, S: Spread> World<'a, S> {
     {
         A::keep_laws();
         quiet_is_true();
-        // That the sums are lower bounds is told by this call.
+        // By this call the sums are known to be lower bounds.
         let _ = self.parts.job.bound();
         read_parts::<A, S>(alloc, self.parts)
     }

@@ -57,8 +57,8 @@ pub trait Gate {
     /// Returns when the worker that took the step may go on.
     fn pass(&self, worker: usize, kind: Kind);
 
-    /// Is shown, when a search begins, after an expansion and after an item is settled, how many boards
-    /// became known by it. No contract says that the count is right.
+    /// Is shown, when a search begins, after an expansion and after an item is settled, how many
+    /// boards became known by it. No contract says that the count is right.
     fn meet(&self, _boards: usize) {}
 
     /// Whether a lower bound is wanted. A worker that searches alone asks after each expansion.
@@ -68,15 +68,15 @@ pub trait Gate {
         false
     }
 
-    /// Is shown the bound of a world of one worker, where one is wanted: no plan of its job costs less.
-    /// None where the goal was met, or no board is open.
+    /// Is shown the bound of a world of one worker, where one is wanted: no plan of its job costs
+    /// less. None where the goal was met, or no board is open.
     fn show_bound<S: Spread>(&self, _world: &World<'_, S>, _bound: Option<u32>)
         requires wanted { is_wanted self.now }
         requires bound { IsBoundSoFar S.owner_of _world.now _bound }
     {}
 }
 
-/// A gate that stands open.
+/// A gate that is always open.
 #[derive(Clone, Copy, Debug)]
 pub struct Free;
 

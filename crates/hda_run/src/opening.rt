@@ -60,8 +60,8 @@ pub(crate) fn open_parts<'a, S: Spread>(
     })
 }
 
-// So many workers: this one at a place, and at all others one that knows nothing and has nothing.
-// Where there is one alone, which has to be made for each short search, no other is.
+// As many workers as are asked for: this one at a place, and at all others one that knows nothing
+// and has nothing. For one worker alone, as each short search makes it, no other is made.
 fn workers_with(
     alloc: Global,
     workers: usize,
@@ -88,7 +88,7 @@ fn workers_with(
     Ok(all)
 }
 
-// So many workers that know nothing and have nothing.
+// This number of workers that know nothing and have nothing.
 fn idle_workers(
     alloc: Global,
     workers: usize,
@@ -138,7 +138,7 @@ fn first_worker<S: Spread>(
     Ok(worker)
 }
 
-// For each of so many workers a lane to each of them.
+// For each worker an empty lane to each worker.
 fn empty_lanes(alloc: Global, workers: usize) -> Result<Vec<Vec<Queue<Plain>>>, OutOfMemory>
     requires { workers ≤ WORKER_LIMIT }
     ensures { IfOk result (λ made. map (λ to_each. to_each.items) made.items
@@ -152,7 +152,7 @@ fn empty_lanes(alloc: Global, workers: usize) -> Result<Vec<Vec<Queue<Plain>>>, 
     Ok(made)
 }
 
-// A lane to each of so many workers.
+// An empty lane to each worker.
 fn lanes_to_each(alloc: Global, workers: usize) -> Result<Vec<Queue<Plain>>, OutOfMemory>
     requires { workers ≤ WORKER_LIMIT }
     ensures { IfOk result (λ made. made.items ≡ replicate workers []) }

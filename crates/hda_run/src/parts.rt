@@ -95,7 +95,8 @@ impl<'a, S: Spread> Parts<'a, S> {
     }
 }
 
-// Whether a step is by a worker that isn't one of so many, or between two that aren't two of them.
+// Whether a step is by a worker that isn't below a count, or between two that aren't two different
+// ones below it.
 fn lacks(workers: usize, step: Step) -> bool
     ensures { IsTrue result ↔ Lacks workers step }
 {

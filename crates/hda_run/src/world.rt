@@ -53,9 +53,9 @@ impl<'a, S: Spread> Model for World<'a, S> {
 }
 
 impl<'a, S: Spread> World<'a, S> {
-    /// The opening world of a job, with so many workers: the start's owner knows the start, and
-    /// there is nothing else. Faults: V2 the workers are not from 1 to `WORKER_LIMIT`, V3 memory
-    /// was refused.
+    /// The opening world of a job, with this number of workers: the start's owner knows the start,
+    /// and there is nothing else. Faults: V2 the workers are not from 1 to `WORKER_LIMIT`, V3
+    /// memory was refused.
     pub fn new(
         alloc: Global,
         job: Job<'a>,

@@ -66,7 +66,7 @@ range_within first n tile has =
     let at : first + has.0 ≡ tile = sym (get_or-range_with_len first n has.0 tile i_in) ∙ has.2 in
     (omega (arith, at), omega (arith, at, i_in))
 
--- and its digit stands there
+-- and its stride is the base to the power of that
 range_stride : (base first n tile : ℕ) → first ≤ tile → tile < first + n → stride_of base (range_with_len first n) tile ≡ base ^ (tile - first)
 unfolding stride_of
 range_stride base first zero tile above below = absurd (omega arith)
@@ -145,7 +145,7 @@ module _ (g : GroupModel) (tile : ℕ) (b : BoardModel) (selection : IsGroup g) 
   board : IsBoard b
   board = is.here.board
 
-  -- where the tile stands among the others
+  -- the tile is in the range of the group's tiles
   pub within : (slice_index g.tiles 0 ≤ tile) × (tile < slice_index g.tiles 0 + length g.tiles)
   within = range_within (slice_index g.tiles 0) (length g.tiles) tile (subst (λ (ts : List ℕ). Contains ts tile) is.here.consecutive is.has)
 
@@ -191,7 +191,7 @@ module _ (g : GroupModel) (tile : ℕ) (b : BoardModel) (selection : IsGroup g) 
             let x_out : x * (16 * p) ≡ 16 * (x * p) = grind (arith) in
             omega (arith, e, here, there, c_up, x_up, c_out, x_out)
 
-  -- the digit of the tile stands in the slot
+  -- the digit of the tile is in the slot
   slot_stand : cell_of b tile * 16 ^ (tile - slice_index g.tiles 0 + 1) + blank_of b ≤ slot_in g.grid (view_of g.tiles b)
   slot_stand =
       let xs = map (cell_of b) g.tiles in

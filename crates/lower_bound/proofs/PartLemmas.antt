@@ -50,7 +50,7 @@ mixed_set i (x ∷ ns) [] n_in o_in = absurd (omega arith)
 mixed_set zero (x ∷ ns) (y ∷ os) n_in o_in = refl
 mixed_set (suc i) (x ∷ ns) (y ∷ os) n_in o_in = ap (λ (zs : List ℕ). x ∷ zs) (mixed_set i ns os (omega arith) (omega arith))
 
--- tiles that didn't move stand where they stood
+-- tiles that didn't move are where they were
 same_places : (before b : BoardModel) (tile : ℕ) (tiles : List ℕ) → KeepsOtherTiles before b tile → AllByRecursion (IsTile b.grid) tiles → ¬ Contains tiles tile → map (cell_of before) tiles ≡ map (cell_of b) tiles
 same_places before b tile [] is all without = refl
 same_places before b tile (x ∷ xs) is all without =
@@ -229,7 +229,7 @@ of_each {X = X} selection P groups xs is all k d k_in =
 pub of_tables : (P : GroupModel → Type 0) (groups : List GroupModel) (lookups : List TableModel) → AreTablesOf groups lookups → All P groups → All (λ table. P table.selection) lookups
 of_tables P groups lookups is all = of_each (λ (table : TableModel). table.selection) P groups lookups is all
 
--- stands for the table at a place that is past the end
+-- the default for the table at a place past the end
 abbrev nothing : TableModel
 nothing = record { selection = record { grid = record { rows = 0; cols = 0 }; tiles = [] }; values = [] }
 

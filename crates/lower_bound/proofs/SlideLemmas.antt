@@ -49,7 +49,7 @@ said_by cells part = part.value (view_at part.tiles cells)
 abbrev pub sum_at : List Part → List ℕ → ℕ
 sum_at parts cells = sum_by (said_by cells) parts
 
--- ---- a sum of which one value changes
+-- ---- a sum in which one value changes
 
 -- sums of the same values
 all_same : {X : Type 0} (f g : X → ℕ) (xs : List X) → AllByRecursion (λ x. f x ≡ g x) xs → sum_by f xs ≡ sum_by g xs
@@ -61,7 +61,7 @@ all_same {X = X} f g (x ∷ xs) same =
     let other = sum_by-cons g x xs in
     omega arith
 
--- sums of values that are the same but for one
+-- sums of values that are the same except at one place
 one_changed : {X : Type 0} (f g : X → ℕ) (xs : List X) (i : ℕ) (d : X) → i < length xs → ((j : ℕ) (e : X) → j < length xs → j ≢ i → f (get_or xs j e) ≡ g (get_or xs j e)) → sum_by f xs + g (get_or xs i d) ≡ sum_by g xs + f (get_or xs i d)
 one_changed f g [] i d i_in same = absurd (omega (arith, i_in))
 one_changed {X = X} f g (x ∷ xs) zero d i_in same =
@@ -110,7 +110,7 @@ none_there [] tile place without has lt = absurd (omega (arith, lt))
 none_there (g ∷ gs) tile place without has lt = without place g lt (has g)
 
 module _ (groups : List GroupModel) (tile place : ℕ) (is : IsGroupWith groups tile place) where
-  -- a group that has the tile stands at the place
+  -- a group that has the tile is at the place
   has_place : AreApart groups → (i : ℕ) (d : GroupModel) → i < length groups → Contains (slice_index_or groups i d).tiles tile → place ≡ i
   has_place apart i d i_in has =
       ⊎_elim
@@ -130,7 +130,7 @@ module _ (groups : List GroupModel) (tile place : ℕ) (is : IsGroupWith groups 
   place_has : (i : ℕ) (d : GroupModel) → i < length groups → place ≡ i → Contains (slice_index_or groups i d).tiles tile
   place_has i d i_in e = subst (λ (k : ℕ). Contains (slice_index_or groups k d).tiles tile) e (is.some (omega (arith, e, i_in)) d)
 
-  -- where none has it, no group stands at the place
+  -- where none has it, no group is at the place
   none_has : All (λ (g : GroupModel). ¬ Contains g.tiles tile) groups → place ≡ length groups
   none_has without =
       ⊎_elim
@@ -163,7 +163,7 @@ module _ {X : Type 0} (selection : X → GroupModel) (groups : List GroupModel) 
   pub has_tile : (tile i : ℕ) (d : X) → IsGroupWith groups tile i → i < length xs → Contains (selection (get_or xs i d)).tiles tile
   has_tile tile i d with i_in = let count = count in subst (λ (s : GroupModel). Contains s.tiles tile) (group_at i d i_in) (with.some (omega (arith, i_in, count)) (selection d))
 
--- no two of which share a tile
+-- two values of each item, the same where its group doesn't have the tile
 module _ {X : Type 0} (selection : X → GroupModel) (groups : List GroupModel) (xs : List X) (of : map selection xs ≡ groups) (f g : X → ℕ) (tile : ℕ) (others : All (λ x. ¬ Contains (selection x).tiles tile → f x ≡ g x) xs) where
   -- where one has the tile, its value alone changes
   pub changed : AreApart groups → (i : ℕ) (d : X) → IsGroupWith groups tile i → i < length xs → sum_by f xs + g (get_or xs i d) ≡ sum_by g xs + f (get_or xs i d)

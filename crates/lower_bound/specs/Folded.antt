@@ -44,7 +44,7 @@ AreFolded (table ∷ tables) [] = ⊥
 abbrev pub values_of : List Part → BoardModel → List ℕ
 values_of parts b = map (λ part. part.value (view_of part.tiles b)) parts
 
--- all tiles but this one stand on the board where they stood on the one before
+-- each tile except this one is on the same cell of both boards
 abbrev pub KeepsOtherTiles : BoardModel → BoardModel → ℕ → Type 0
 KeepsOtherTiles before b tile = (number : ℕ) → 0 < number → number < cell_count b.grid → number ≢ tile → cell_of before number ≡ cell_of b number
 

@@ -65,7 +65,7 @@ AreOneEach groups (Folded folds) = AreFoldsOf groups folds.now
 abbrev pub ListedTablesAreOneEach : Type 0
 ListedTablesAreOneEach = (tables : BoundModel) (list : TableList) → IsTables tables → AreListed tables list → AreOneEach tables.split.groups list
 
--- a move leaves each tile but one where it stood: all but that which stood where the blank is after it
+-- a move keeps each tile on its cell, except the one that was where the blank is after the move
 abbrev pub MovesMoveOneTile : Type 0
 MovesMoveOneTile = (rule : WeightsModel) (b : BoardModel) (m : Move) (b' : BoardModel) (c : ℕ) → IsBoard b → Moves rule b m b' c → KeepsOtherTiles b b' (get_or b.tiles (blank_of b') 0)
 
@@ -73,7 +73,7 @@ MovesMoveOneTile = (rule : WeightsModel) (b : BoardModel) (m : Move) (b' : Board
 abbrev pub ValuesAddUp : Type 0
 ValuesAddUp = (parts : List Part) (b : BoardModel) → sum (values_of parts b) ≡ sum_of parts b
 
--- where no two groups share a tile, a group has a tile exactly where it stands at the tile's place; where no group has
+-- where no two groups share a tile, a group has a tile exactly where it is at the tile's place; where no group has
 -- the tile, the place is behind the last group
 abbrev pub ATileHasOneGroup : Type 0
 ATileHasOneGroup =
@@ -83,8 +83,8 @@ ATileHasOneGroup =
     → (AllPairs (λ g h. ShareNoTile g.tiles h.tiles) groups → (i : ℕ) (d : GroupModel) → i < length groups → Contains (slice_index_or groups i d).tiles tile ↔ (slice_index places tile ≡ i))
     × (All (λ group. ¬ Contains group.tiles tile) groups → slice_index places tile ≡ length groups)
 
--- where whole tables are potentials, a move changes what is said by the group that has the tile that moves, and by no other: to
--- move any other tile costs a group nothing, so its value can neither fall nor rise; a folded one doesn't see the blank
+-- Where whole tables are potentials, a move changes the value of no group except the one that has the tile that moves. To move another
+-- tile costs a group nothing, so its value can neither fall nor rise. A folded value doesn't depend on the blank.
 abbrev pub MovesChangeOneValue : Type 0
 MovesChangeOneValue =
     (tables : BoundModel) (rule : WeightsModel) (b : BoardModel) (m : Move) (b' : BoardModel) (c : ℕ)
@@ -95,7 +95,7 @@ MovesChangeOneValue =
     → Moves rule b m b' c
     → All (λ part. ¬ Contains part.tiles (get_or b.tiles (blank_of b') 0) → part.value (view_of part.tiles b) ≡ part.value (view_of part.tiles b')) (parts_of tables)
 
--- a folded table tells both values by sparse place, or one of them is not told so, and not both
+-- of a folded table exactly one of `TellsBoth` and `IsUntold` holds
 abbrev pub BothAreToldOrNot : Type 0
 BothAreToldOrNot =
     (before after : List ℕ) (fold : FoldedModel)

@@ -39,7 +39,7 @@ pub const GREATEST_SUM: u32 = 1_572_840;
 pub struct Bound {
     partition: Partition,
     held: Held,
-    // Of each number that may be a tile the place of the group that has it.
+    // For each number that may be a tile, the place of the group that has it.
     by_tile: [usize; 25],
     // Whether its tables are read by digits of search keys.
     by_digits: bool,
@@ -120,7 +120,7 @@ impl Bound {
         })
     }
 
-    /// The bound by the same tables, folded: each whole one is given back when it was folded.
+    /// The bound by the same tables, folded: each whole one is freed once it is folded.
     /// Where they are potentials, or were folded from such, so are the folded ones. A bound that
     /// has no whole table stays as it is. An error is answered only where memory was refused.
     pub fn folded(self, alloc: Global) -> Result<Self, OutOfMemory>
@@ -200,8 +200,8 @@ impl Bound {
     }
 
     // The sum of the board to which a move of a tile leads, by the sum of the board before it and
-    // the cell of each number there. Only the table is read whose group has the tile, for the values
-    // before and after. No other has another value then, where whole tables are consistent.
+    // the cell of each number there. Only the table whose group has the tile is read, for the
+    // values before and after. Where whole tables are consistent, no other table's value changes.
     fn sum_after(&self, sum: u32, cells: &[u8; 25], tile: u8) -> u32
         requires consistent { AreConsistent self.now }
         requires slide { (b : BoardModel) × (b' : BoardModel)
@@ -240,8 +240,8 @@ impl Bound {
     }
 
     /// The sum of the board to which a move of a tile leads, by the sum of the board before it and
-    /// what is read of that. Only the table is read whose group has the tile, for the values before
-    /// and after. No other has another value then, where whole tables are consistent.
+    /// what is read of that. Only the table whose group has the tile is read, for the values before
+    /// and after. Where whole tables are consistent, no other table's value changes.
     #[tactic(auto, using(crate::proofs::ConsecutiveLemmas::held_consecutive))]
     pub fn sum_after_move(&self, sum: u32, reading: &Reading, tile: u8) -> u32
         requires consistent { AreConsistent self.now }
@@ -408,7 +408,7 @@ fn are_folds_of(groups: &[Group], folds: &[Folded]) -> bool
     true
 }
 
-// The tables folded, each given back then. Where there is none, nothing is refused.
+// The tables, folded; each is freed once it is folded. Where there is none, no memory is refused.
 #[tactic(auto, using(crate::proofs::PartLemmas::folded_more))]
 fn fold_all(alloc: Global, tables: Vec<Table>) -> Result<Vec<Folded>, OutOfMemory>
     requires { length tables.items ≤ 24 }

@@ -5,8 +5,8 @@ ghost use Rattle.lower_bound.specs.ByTile.{IsGroupWith, AreGroupsByTile};
 
 use pattern_index::Group;
 
-// Of each number that may be a tile the place of the group that has it, or how many groups there
-// are where none has.
+// For each number that may be a tile, the place of the group that has it, or the count of groups
+// where none has.
 pub(crate) fn find_groups_by_tile(groups: &[Group]) -> [usize; 25]
     ensures { AreGroupsByTile groups.now result }
 {
@@ -17,7 +17,7 @@ pub(crate) fn find_groups_by_tile(groups: &[Group]) -> [usize; 25]
     by_tile
 }
 
-// The place of the first group that has a tile, or how many groups there are where none has.
+// The place of the first group that has a tile, or the count of groups where none has.
 fn find_group_with(groups: &[Group], tile: u8) -> usize
     ensures { IsGroupWith groups.now tile result }
 {

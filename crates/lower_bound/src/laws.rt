@@ -41,7 +41,7 @@ pub fn listed_tables_are_one_each()
     ensures { ListedTablesAreOneEach }
 {}
 
-/// A move leaves each tile but one where it stood.
+/// A move moves one tile: each other tile keeps its cell.
 pub fn moves_move_one_tile()
     ensures { MovesMoveOneTile }
 {}
@@ -51,20 +51,20 @@ pub fn values_add_up()
     ensures { ValuesAddUp }
 {}
 
-/// Of groups that share no tile one at most has a tile, and stands at the tile's place. Where none
-/// has it, the place is behind the last group.
+/// Where no two groups share a tile, at most one has a tile, and it is at the tile's place. Where
+/// none has it, the place is behind the last group.
 pub fn a_tile_has_one_group()
     ensures { ATileHasOneGroup }
 {}
 
 /// Where whole tables are potentials, a move changes the value of one group at most: that of the
-/// tile that moves. Of folded tables it does so whatever they hold.
+/// tile that moves. With folded tables it does so whatever they hold.
 pub fn moves_change_one_value()
     ensures { MovesChangeOneValue }
 {}
 
-/// A folded table tells both values by sparse place, or one is not there, or the table has too many
-/// sparse places.
+/// A folded table has both values and tells them by sparse place; or one is missing, or the table
+/// has too many sparse places.
 pub fn both_are_told_or_not()
     ensures { BothAreToldOrNot }
 {}

@@ -40,7 +40,7 @@ pub(crate) fn sum_folded(folds: &[Folded], cells: &[u8; 25]) -> u32
     sum
 }
 
-// A sum in which what a table said stands, with what it says after a slide in its place.
+// A sum that includes a table's value, with that value replaced by the one after a slide.
 pub(crate) fn whole_after(table: &Table, sum: u32, cells: &[u8; 25], tile: u8) -> u32
     requires views { SeesBoth cells.now tile table.now.selection }
     requires sum { value_in table.now (view_at table.now.selection.tiles cells.now) ≤ sum }

@@ -1,4 +1,4 @@
--- A list that stands in pages: the item at a place, and a change there.
+-- A list in pages: the item at a place, and a change there.
 use Rattle.std.proofs.Common.{◌≡◌, ℕ, ◌+◌, ◌-◌, ◌*◌, ◌/◌, ◌%◌, ◌<◌, ◌≤◌, ◌∙◌, zero, suc, List, [], ◌∷◌, ◌++◌, length, get_or, sym, ap, subst, arith, length-append, length-set, zero-mul}
 use Rattle.std.specs.Prelude.{set}
 use Rattle.std.specs.List.{AllByRecursion}

@@ -1,4 +1,4 @@
--- A list that stands in pages.
+-- A list in pages.
 use Rattle.std.specs.Prelude.{List, ◌≡◌, ◌≤◌, length}
 use Rattle.std.specs.List.{flat_map, AllByRecursion}
 use Rattle.std.specs.declared.vec.Vec.{Vec}

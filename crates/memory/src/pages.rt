@@ -13,10 +13,10 @@ use std::vec::Vec;
 /// How many items a page has.
 pub const PAGE_LENGTH: usize = 128;
 
-/// The most pages: so a place, and one more, is told by 32 bits.
+/// The most pages. They have 2^32 items, so a place fits 32 bits.
 const PAGE_LIMIT: usize = 33_554_432;
 
-/// A list in pages. To add a page moves none of the others.
+/// A list in pages. Adding a page moves none of the others.
 #[derive(Drop)]
 pub struct Pages<T> {
     pages: Vec<Vec<T>>,
@@ -86,8 +86,8 @@ impl<T: Copy> Pages<T> {
         *self.at_mut(place) = item;
     }
 
-    /// Adds a page of this item. Where as many pages stand as there may be, this is refused as by a
-    /// want of memory: there are 2^32 items then.
+    /// Adds a page of this item. Where there are `PAGE_LIMIT` pages already, with 2^32 items, this
+    /// answers `OutOfMemory` too.
     pub fn grow(&mut self, alloc: Global, item: T) -> Result<(), OutOfMemory>
         ensures ok { OnOk result (self.new ≡ self.old ++ replicate PAGE_LENGTH item) }
         ensures err { OnErr result (self.new ≡ self.old) }

@@ -44,7 +44,7 @@ pub trait Counting {
     /// How many workers may share a book.
     ghost allows_workers: { ℕ → Type 0 };
 
-    /// By which wants of memory a book may stop.
+    /// For which `Want` a book may stop.
     ghost allows_want: { Want → Type 0 };
 
     /// The amount of a part.
@@ -106,9 +106,9 @@ pub trait Counting {
         ensures total { total all.new ≡ total all.old + more };
 }
 
-/// A way of counting for threads. A caller owes nothing, and of a book that stands behind a lock
-/// its limit is known, how many workers share it, and that no list of steps stopped it. A book with
-/// this limit and so many workers may be made, and any refusal of memory may stop it.
+/// A way of counting for threads. A caller owes nothing. A book behind a lock has this limit and
+/// this number of workers, and no list of steps stopped it. A book with these may be made, and any
+/// refusal of memory may stop it.
 pub trait Tokens: Counting {
     /// The limit.
     ghost limit: { ℕ };
@@ -125,7 +125,7 @@ pub trait Tokens: Counting {
     /// There is no other limit.
     ghost one_limit: { (n : ℕ) → Self.allows_limit n → n ≡ limit };
 
-    /// So many workers may share a book.
+    /// This number of workers may share a book.
     ghost its_count: { Self.allows_workers workers };
 
     /// There is no other number of workers.

@@ -76,8 +76,8 @@ impl<M: Ledger> Model for LedgerTotal<M> {
     ghost invariant = { λ t. t.book.total ≡ t.amount };
 }
 
-/// A ledger of what is granted of a limit. The limit is known by the ledger, so that it is known of
-/// a book that stands behind a lock.
+/// A ledger of what is granted of a limit. The ledger knows the limit, so that it is known of a
+/// book behind a lock.
 pub trait Capped: Ledger {
     /// The limit.
     ghost limit: { ℕ };
@@ -261,7 +261,7 @@ pub(crate) fn merge_ticket<M: Ledger>(share: &mut Share<M>, ticket: LedgerTicket
     share.merge(other);
 }
 
-// Changes nothing, and tells how the amount of a share stands to the total.
+// Changes nothing. A share has at most the total, and a share of all parts has all of it.
 pub(crate) fn audit_total<M: Ledger>(total: &mut LedgerTotal<M>, share: &mut Share<M>)
     ensures total { total.new ≡ total.old }
     ensures parts { share.new.parts ≡ share.old.parts }

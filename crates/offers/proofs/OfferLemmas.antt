@@ -70,7 +70,7 @@ module _ (b : BoardModel) (m : Move) (to : ℕ) (board : IsBoard b) (beside : ne
 abbrev item_at : WeightsModel → BoardModel → ℕ → Move → Option ℕ → Option Item
 item_at rule b cost m to = option_map (λ next. record { board = next.0; cost = cost + next.1; via = m }) (option_map (successor_at rule b) to)
 
--- what the moves offer that lead to a cell, and no other does, is what they offer but for the move that is left out
+-- offers by just the moves that lead to a cell are those of all moves without the one that is left out
 pub all_offered : (rule : WeightsModel) (left_out : Option Move) (b : BoardModel) (cost : ℕ) (sum owner : BoardModel → ℕ) (exits : ByMovesModel ℕ) (offers : Offers) → exits ≡ exits_of left_out b → length (entries_of offers) ≡ length (entries_of exits) → ((j : ℕ) (d : Move × Offer) (e : Move × ℕ) → j < length (entries_of exits) → (get_or (entries_of offers) j d).0 ≡ (get_or (entries_of exits) j e).0) → ((j : ℕ) (d : Move × Offer) → j < length (entries_of exits) → IsOffered sum owner (item_by rule b cost (get_or (entries_of offers) j d).0) (Some (get_or (entries_of offers) j d).1)) → AreOffered sum owner (but left_out (item_by rule b cost)) offers
 all_offered rule left_out b cost sum owner exits offers is all moves offered = record { up = one U; left = one L; right = one R; down = one D }
   where
@@ -110,7 +110,7 @@ all_offered rule left_out b cost sum owner exits offers is all moves offered = r
 
 -- ---- what is said of each
 
--- what holds of a move with what stands for it, and of the others, holds of each entry
+-- what holds of a move with its value, and of the other entries, holds of each entry
 before_has : {A : Type 0} (P : Move × A → Type 0) (d : Move × A) (m : Move) (item : Option A) (others : List (Move × A)) → ((x : A) → item ≡ Some x → P (m, x)) → ((i : ℕ) → i < length others → P (get_or others i d)) → (i : ℕ) → i < length (before m item others) → P (get_or (before m item others) i d)
 before_has P d m None others here there i within = there i within
 before_has P d m (Some x) others here there zero within = here x refl
@@ -122,7 +122,7 @@ before_gives P d m None others all = (tt, all)
 before_gives P d m (Some x) others all = (all 0 (omega arith), λ i within. all (suc i) (omega (arith, within)))
 
 module _ {A : Type 0} (four : ByMovesModel A) (d : Move × A) where
-  -- each entry is what stands for its move
+  -- each entry has the value of its move
   pub entry_is : (i : ℕ) → i < length (entries_of four) → of_move four (get_or (entries_of four) i d).0 ≡ Some (get_or (entries_of four) i d).1
   entry_is =
       let P = λ (e : Move × A). of_move four e.0 ≡ Some e.1 in
@@ -145,7 +145,7 @@ pub entries_on : {A : Type 0} (four : ByMovesModel A) (i : ℕ) (entry : Move ×
 entries_on {A = A} four i entry is within =
     drop_more (entries_of four) i entry within ∙ ap (λ (e : Move × A). e ∷ drop (i + 1) (entries_of four)) (is entry)
 
--- what holds of what is there holds of what stands for a move
+-- what holds of the values that are there holds of the value of a move
 pub of_one : {A : Type 0} (P : A → Type 0) (four : ByMovesModel A) (m : Move) → OfFour P four → IfSome (of_move four m) P
 of_one P four U all = all.0
 of_one P four L all = all.1
@@ -162,7 +162,7 @@ sum_before : (me to : ℕ) (m : Move) (item : Option Offer) (others : List (Move
 sum_before me to m None others = omega arith
 sum_before me to m (Some x) others = sum_by-cons (entry_goes me to) (m, x) others
 
--- of the entries as many go as of all four
+-- as many go of the entries as of all four
 pub sum_entries : (me to : ℕ) (offers : Offers) → sum_by (entry_goes me to) (entries_of offers) ≡ go me to offers
 sum_entries me to offers =
     let up = sum_before me to U offers.up (before L offers.left (before R offers.right (before D offers.down []))) in

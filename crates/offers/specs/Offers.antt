@@ -45,8 +45,8 @@ pub record AreOffered (sum owner : BoardModel → ℕ) (items : Move → Option 
 abbrev pub OfEach : (Offer → Type 0) → Offers → Type 0
 OfEach P offers = IfSome offers.up P × IfSome offers.left P × IfSome offers.right P × IfSome offers.down P
 
--- what is offered from a board at this cost has the search key of a board of its sides, no cost plus sum above what one move more can make it,
--- and one of so many owners
+-- what is offered from a board at this cost has the search key of a board of its sides, no cost plus sum above what one move more can make
+-- it, and one of this number of workers as owner
 pub record IsWithin (grid : ShapeModel) (cost workers : ℕ) (offer : Offer) : Type 0 where
   pub board : (b : BoardModel) × HasSearchKey grid offer.key b
   pub low : offer.f ≤ cost + 255 + GREATEST_SUM

@@ -20,8 +20,8 @@ use owners::{Moved, Slide, Spread};
 use search_keys::KeyedBoard;
 use successor_sums::{ByMoves, find_exits};
 
-/// What a move from a board offers: a successor, by its key. (The move itself stands beside it in
-/// `ByMoves`: with it bytes would be unused, which are copied one by one.)
+/// What a move from a board offers: a successor, by its key. (`ByMoves` has the move itself: with
+/// it here bytes would be unused, which are copied one by one.)
 #[derive(Clone, Copy, Debug)]
 pub struct Offer {
     pub key: u128,

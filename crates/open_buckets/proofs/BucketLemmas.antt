@@ -1,4 +1,4 @@
--- Buckets, one of which changes.
+-- Buckets where one changes.
 use Rattle.std.proofs.Common.{◌≡◌, ◌≢◌, ℕ, ◌+◌, ◌-◌, ◌<◌, ◌≤◌, ◌∙◌, List, [], ◌∷◌, ◌++◌, length, sym, ap, subst, inl, inr, arith, get_or, length-set}
 use Rattle.std.specs.Prelude.{map, set, take, IsPermutation}
 use Rattle.std.specs.List.Sorted.{IsNonDecreasingBy}

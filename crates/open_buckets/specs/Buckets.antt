@@ -1,10 +1,10 @@
--- Entries as they stand in buckets, one bucket for each f.
+-- Entries in buckets, one bucket for each f.
 use Rattle.std.specs.Prelude.{ℕ, ◌≤◌, ◌+◌, ◌-◌, List, length, map}
 use Rattle.std.specs.declared.vec.Vec.{Vec}
 use Rattle.open_buckets.specs.OpenLists.{OpenModel, NothingWaits}
 use Rattle.open_buckets.specs.declared.open.TheConstants.{GREATEST_F}
 
--- what stands in these buckets
+-- the open list in these buckets
 abbrev pub list_of : {K Z : Type 0} → List (Vec (K × ℕ) Z) → OpenModel K
 list_of {K} {Z} buckets = record { entries = map (λ (b : Vec (K × ℕ) Z). b.items) buckets; places = map (λ (b : Vec (K × ℕ) Z). b.cap - b.len) buckets }
 

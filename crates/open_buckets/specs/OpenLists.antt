@@ -1,5 +1,5 @@
--- What contracts see of an open list: at each f, the cost of a board plus its sum, the entries, of which each is a key and a cost, and
--- for how many more there is a place.
+-- What contracts see of an open list: for each f its entries, and how many more have a place. An entry is a key and a cost; its f is the
+-- cost of a board plus its sum.
 use Rattle.std.specs.Prelude.{ℕ, ◌≡◌, ◌≢◌, ◌<◌, ◌≤◌, ◌+◌, List, [], ◌∷◌, ◌++◌, Option, None, Some, slice_index, slice_index_or, IsPermutation}
 use Rattle.std.specs.List.Sorted.{IsNonDecreasingBy}
 
@@ -12,7 +12,7 @@ pub record OpenModel (K : Type 0) : Type 0 where
 abbrev pub empty_list : {K : Type 0} → OpenModel K
 empty_list = record { entries = []; places = [] }
 
--- the entries at f, of which the last is taken first; one that was put there twice stands there twice
+-- the entries at f: the last is taken first, and one that was put there twice is there twice
 abbrev pub entries_at : {K : Type 0} → OpenModel K → ℕ → List (K × ℕ)
 entries_at list f = slice_index_or list.entries f []
 

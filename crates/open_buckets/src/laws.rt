@@ -7,8 +7,8 @@ pub fn the_next_is_taken<K: Copy>()
     ensures { TheNextIsTaken K }
 {}
 
-/// What is taken where an entry was put is that entry, and then all entries are as before it, and no
-/// place is lost.
+/// What is taken where an entry was put is that entry, and then all entries are as before it, and
+/// no place is lost.
 pub fn the_last_put_is_taken<K: Copy>()
     ensures { TheLastPutIsTaken K }
 {}

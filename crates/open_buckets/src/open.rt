@@ -14,11 +14,11 @@ use std::marker::Model;
 /// a move of weight 255 more, and a sum of 24 times 65,535.
 pub const GREATEST_F: u32 = 2_621_415;
 
-// For how many entries places are made at least, where a bucket grows.
+// The least number of entries for which places are made, where a bucket grows.
 const PLACES_AT_ONCE: usize = 32;
 
-/// Entries by f, the cost of a board plus its sum. Each is a key, or whatever else tells the board,
-/// and the cost.
+/// Entries by f, the cost of a board plus its sum. Each is a key, or whatever else identifies the
+/// board, and the cost.
 ///
 /// There is a bucket for each f, and a cursor that is never above the least f of all entries.
 #[derive(Drop)]

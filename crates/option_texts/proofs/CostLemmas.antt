@@ -106,7 +106,7 @@ first_zero grid words place word first at none =
       zero = number_at words place word at ∙ no_weight word none;
     }
 
--- the first fault of the numbers is that of the words
+-- the numbers and their words have the same first fault
 same_fault : (grid : ShapeModel) (words : List (List ℕ)) (fault : WeightsFault) → IsFirstWeightsFault grid (map weight_number words) fault ↔ IsFirstWeightFault grid words fault
 same_fault grid words WrongCount = (λ wrong e. wrong (length-map words weight_number ∙ e), λ wrong e. wrong (sym (length-map words weight_number) ∙ e))
 same_fault grid words (WeightOutOfRange place) = (
@@ -122,7 +122,7 @@ surplus : (grid : ShapeModel) (words : List (List ℕ)) → cell_count grid ≤ 
 surplus grid words few more WrongCount = (λ wrong e. absurd (omega arith), λ wrong e. absurd (omega (arith, length-map (take 26 words) weight_number, length-take 26 words)))
 surplus grid words few more (WeightOutOfRange place) = (λ first. absurd (let e = first.one_each in omega (arith, length-map (take 26 words) weight_number, length-take 26 words)), λ fault. absurd (let e = fault.1.one_each in omega arith))
 
--- the first fault of the numbers that are read is that of the words
+-- the numbers that are read and all words have the same first fault
 read_fault : (grid : ShapeModel) (words : List (List ℕ)) (numbers : List ℕ) → cell_count grid ≤ 25 → numbers ≡ map weight_number (take 26 words) → (fault : WeightsFault) → IsFirstWeightsFault grid numbers fault ↔ IsFirstWeightFault grid words fault
 read_fault grid words numbers few read fault =
     subst (λ (ns : List ℕ). IsFirstWeightsFault grid ns fault ↔ IsFirstWeightFault grid words fault) (sym read)
@@ -138,7 +138,7 @@ spell_each [] low = tt
 spell_each (word ∷ words) low =
     (spells_number word (All-head (λ n. 1 ≤ n) (weight_number word) (map weight_number words) low), spell_each words (All-tail (λ n. 1 ≤ n) (weight_number word) (map weight_number words) low))
 
--- the words spell the weights that are read
+-- words whose numbers are weights spell these weights
 words_spell : (grid : ShapeModel) (words : List (List ℕ)) (numbers : List ℕ) → cell_count grid ≤ 25 → numbers ≡ map weight_number (take 26 words) → AreWeights (listed_rule grid numbers) → SpellEach words numbers
 words_spell grid words numbers few read rule =
     let count : suc (length numbers) ≡ cell_count grid = rule.one_each in
@@ -178,7 +178,7 @@ weights_are (word ∷ words) (n ∷ ns) spelled high =
     let others = weights_are words ns spelled.1 (All-tail (λ n. n < 256) n ns high) in
     ap (λ (m : ℕ). m ∷ map weight_number words) first ∙ ap (λ (ms : List ℕ). n ∷ ms) others
 
--- the costs are those of the words' numbers
+-- the costs are those of the numbers of its words
 said_rule : (grid : ShapeModel) (text : List ℕ) (rule : WeightsModel) → SaysWeights grid text rule → rule ≡ listed_rule grid (map weight_number (comma_words text))
 said_rule grid text rule said =
     let sound : AreWeights (listed_rule grid said.weights) = subst AreWeights said.listed said.sound in

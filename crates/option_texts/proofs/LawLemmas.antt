@@ -54,7 +54,7 @@ group_at grid (t ∷ texts) [] place text made at = absurd made
 group_at grid (t ∷ texts) (g ∷ groups) zero text made at = (g, subst (λ (bytes : List ℕ). IsGroupOf grid bytes g) (same_Some t text at) made.0)
 group_at grid (t ∷ texts) (g ∷ groups) (suc place) text made at = group_at grid texts groups place text made.1 at
 
--- texts say as many groups, and groups of the same tiles, whoever reads them
+-- two lists of groups that the same texts say are as long, and their groups are of the same tiles
 same_count : (grid : ShapeModel) (texts : List (List ℕ)) (ones others : List GroupModel) → AreGroupsOf grid texts ones → AreGroupsOf grid texts others → length ones ≡ length others
 same_count grid [] [] [] one other = refl
 same_count grid [] (g ∷ ones) others one other = absurd one
@@ -106,7 +106,7 @@ text_before (t ∷ texts) p zero text lt at = absurd (omega arith)
 text_before (t ∷ texts) zero (suc q) text lt at = at
 text_before (t ∷ texts) (suc p) (suc q) text lt at = text_before texts p q text (omega arith) at
 
--- no text before a fault is at fault
+-- no text before a fault is faulty
 none_before : (grid : ShapeModel) (texts : List (List ℕ)) (p q : ℕ) (text : List ℕ) (before : List GroupModel) (fault : GroupFault) → p < q → slice_get texts p ≡ Some text → AreGroupsOf grid (take q texts) before → IsFirstGroupFault grid (group_numbers text) fault → ⊥
 none_before grid texts p q text before fault lt at said first =
     let here = group_at grid (take q texts) before p text said (text_before texts p q text lt at) in
@@ -313,7 +313,7 @@ each_side P two three four five side low high =
     (cases_eq side 3))
     (cases_eq side 2)
 
--- each tile stands in the groups, shape by shape
+-- each tile is in the groups, shape by shape
 pub each_tile : (grid : ShapeModel) → IsShape grid → concat (default_groups grid) ≡ range_with_len 1 (cell_count grid - 1)
 each_tile grid sides =
     each_side (λ rows. HasEachTile rows grid.cols) (of_rows 2 refl refl refl refl) (of_rows 3 refl refl refl refl) (of_rows 4 refl refl refl refl) (of_rows 5 refl refl refl refl) grid.rows sides.rows_low sides.rows_high

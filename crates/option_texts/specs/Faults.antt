@@ -25,8 +25,8 @@ IsFirstWeightFault grid words (WeightOutOfRange place) = (word : List ℕ) × Is
 abbrev pub IsFirstCostsFault : ShapeModel → List ℕ → WeightsFault → Type 0
 IsFirstCostsFault grid text fault = (text ≢ codes "unit") × (text ≢ codes "face") × IsFirstWeightFault grid (comma_words text) fault
 
--- the first fault of the texts of groups: of the first text that says no group its first fault, else that of the groups; that
--- memory is refused may come before
+-- the first fault of the texts of groups: that of the first text that says no group, else that of the groups; memory may be
+-- refused before either
 abbrev pub IsFirstGroupsFault : ShapeModel → List (List ℕ) → GroupsFault → Type 0
 IsFirstGroupsFault grid texts (NoGroup fault) =
     (place : ℕ) × (text : List ℕ) × (before : List GroupModel) × (slice_get texts place ≡ Some text) × AreGroupsOf grid (take place texts) before × IsFirstGroupFault grid (group_numbers text) fault

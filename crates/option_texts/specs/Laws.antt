@@ -34,7 +34,7 @@ CostsHaveNoFault = (grid : ShapeModel) (text : List ℕ) (rule : WeightsModel) (
 abbrev pub CostFaultsAreDetermined : Type 0
 CostFaultsAreDetermined = (grid : ShapeModel) (text : List ℕ) (fault fault' : WeightsFault) → IsFirstCostsFault grid text fault → IsFirstCostsFault grid text fault' → fault' ≡ fault
 
--- the fault is that memory is refused, of which the texts say nothing
+-- the fault is that memory is refused, which the texts don't decide
 abbrev pub IsMemoryRefusal : GroupsFault → Type 0
 IsMemoryRefusal (NoGroup fault) = ⊥
 IsMemoryRefusal (NoPartition fault) = ⊥

@@ -11,9 +11,8 @@ use memory::{OutOfMemory, push};
 use pattern_index::{Group, Partition};
 use std::alloc::Global;
 
-/// The groups where none are named: the tiles in rising order, cut into groups of 2 where there are
-/// up to 6 cells, of 4 where there are up to 10, of 5 where there are up to 16, else of 4. The last
-/// may be smaller.
+/// The groups where none are named: the tiles in rising order, cut into groups. A group has 2 tiles
+/// for up to 6 cells, 4 for up to 10, 5 for up to 16, else 4. The last may have fewer.
 pub fn default_groups(alloc: Global, shape: Shape) -> Result<Partition, OutOfMemory>
     ensures grid { IfOk result (λ p. p.grid ≡ shape) }
     ensures groups { IfOk result (λ p. map (λ g. g.tiles) p.groups ≡ default_groups shape) }
@@ -48,7 +47,7 @@ fn default_size(cells: usize) -> usize
     4
 }
 
-// The group of so many tiles in rising order.
+// The group of `count` tiles in rising order, from `first` on.
 fn rising_group(shape: Shape, first: usize, count: usize) -> Group
     requires tiles { 0 < first }
     requires some { 0 < count }

@@ -9,14 +9,19 @@ use crate::words::numbers_in;
 use board::{Board, Shape, TilesFault};
 
 /// The board whose tiles a text spells, as `--goal` takes it: one word for each cell, with commas
-/// between; or the first fault: E2 where there are more words or fewer, else by place E3 where a
-/// word is no number below the count of cells, E4 where its number stood before.
+/// between. Else the answer is the first fault:
+///
+/// - E2: there are more words than cells, or fewer.
+/// - E3: a word is no number below the count of cells.
+/// - E4: the number of a word is that of a word before it.
+///
+/// Where the count is right, the first faulty word decides between E3 and E4.
 pub fn read_goal(shape: Shape, text: &str) -> Result<Board, TilesFault>
     ensures goal { IfOk result (IsGoalOf shape text.now) }
     ensures fault { (fault : TilesFault) → IsErrOf result fault
         ↔ IsFirstWordFault shape (comma_words text.now) fault }
 {
-    // What the last clause needs of the shape, that it is one, is told by this call.
+    // The last clause needs that the shape is one. The contract of this call says so.
     let _ = shape.cells();
     let numbers = numbers_in(text);
     Board::from_tiles(shape, numbers.as_slice())

@@ -15,10 +15,18 @@ use pattern_index::{Group, GroupFault, Partition};
 use std::alloc::Global;
 
 /// The partition that a text says, as `--groups` takes it: `none`, or groups with slashes between,
-/// each of tiles with commas between. Or the first fault: of the groups from the left the first
-/// fault of the first group that has one, E5 where it has no word, else by place E6 where a word is
-/// no tile, E7 where its tile stood before, else E8; and where no group has one, E10 where there
-/// are too many groups, else E9 where two share a tile. Memory may be refused for the groups.
+/// each of tiles with commas between. Else the answer is the first fault.
+///
+/// The first group from the left that has a fault has one of these:
+///
+/// - E5: it has no word.
+/// - E6: a word is no tile.
+/// - E7: the tile of a word is that of a word before it.
+/// - E8: it has too many views.
+///
+/// The first faulty word of a group decides between E6 and E7, and both come before E8. Where no
+/// group has a fault, E10 says that there are too many groups, and else E9 that two share a tile.
+/// Memory may be refused for the groups.
 #[tactic(auto, using(crate::proofs::TextLemmas::groups_fit))]
 pub fn read_groups(alloc: Global, shape: Shape, text: &str) -> Result<Partition, GroupsFault>
     ensures groups { IfOk result
@@ -62,7 +70,7 @@ fn read_group(shape: Shape, text: &str) -> Result<Group, GroupFault>
     ensures fault { (fault : GroupFault) → IsErrOf result fault
         ↔ IsFirstGroupFault shape (group_numbers text.now) fault }
 {
-    // What the last clause needs of the shape, that it is one, is told by this call.
+    // The last clause needs that the shape is one. The contract of this call says so.
     let _ = shape.cells();
     let numbers = group_numbers_in(text);
     Group::new(shape, numbers.as_slice())

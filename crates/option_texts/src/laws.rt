@@ -22,8 +22,8 @@ pub fn costs_say_one_thing()
     ensures faults { CostFaultsAreDetermined }
 {}
 
-/// Texts that say a partition have no fault, and no texts have two first faults; of both it is left
-/// out that memory is refused.
+/// Texts that say a partition have no fault, and no texts have two first faults. Neither law counts
+/// a refusal of memory.
 #[tactic(auto, using(crate::proofs::LawLemmas::no_groups_fault, crate::proofs::LawLemmas::one_groups_fault))]
 pub fn texts_say_one_thing()
     ensures partitions { PartitionsHaveNoFault }

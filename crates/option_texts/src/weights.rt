@@ -24,13 +24,13 @@ pub fn read_costs(shape: Shape, text: &str) -> Result<Weights, WeightsFault>
     if text == "face" {
         return Ok(Weights::face(shape));
     }
-    // What the last clause needs of the shape, that it is one, is told by this call.
+    // The last clause needs that the shape is one. The contract of this call says so.
     let _ = shape.cells();
     let weights = weights_in(text);
     Weights::list(shape, weights.as_slice())
 }
 
-// The weights that the words between commas say. What is behind the first words is not read.
+// The weights that the first words between commas say. What is behind them is not read.
 fn weights_in(text: &str) -> ArrayVec<u8, 26>
     ensures { result.items ≡ map weight_number (take 26 (comma_words text.now)) }
 {

@@ -10,7 +10,7 @@ use batch_lines::tile_number;
 /// The most words that are read: one more than the cells of any board, so that a surplus is seen.
 pub(crate) const WORDS_READ: usize = 26;
 
-// The numbers that the words between commas say. What is behind the first words is not read.
+// The numbers that the first words between commas say. What is behind them is not read.
 pub(crate) fn numbers_in(text: &str) -> ArrayVec<u8, 26>
     ensures { result.items ≡ map tile_number (take 26 (comma_words text.now)) }
 {

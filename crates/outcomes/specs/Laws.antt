@@ -67,7 +67,7 @@ BoundsLackRowsForMemory =
     → Answers task (Bounded bound best cause None)
     → (best ≡ None) × ((refused : OutOfMemory) × (cause ≡ Memory (Refused refused)))
 
--- rows prove the cost of each plan that an ending says is least, and each bound, though the ending doesn't list them; they are such as an outcome has
+-- the cost of each optimal ending, and each bound, has rows that prove it as those of an outcome do, though the ending doesn't list them
 abbrev pub EndingsHaveProofs : Type 0
 EndingsHaveProofs =
     ((task : Task) (cost : ℕ) (plan : Vec Move Global) → EndAnswers task (ending.Optimal cost plan) → (rows : List (BoardModel × ℕ)) × AreRowsOf task rows cost)
@@ -78,7 +78,7 @@ abbrev pub BoundsReachTheStart : Type 0
 BoundsReachTheStart =
     (task : Task) (bound : ℕ) (best : Option (ℕ × Vec Move Global)) (cause : Cause) → EndAnswers task (ending.Bounded bound best cause) → task.sum task.start ≤ bound
 
--- no bound is above the sum of the greatest cost and of what no board's heuristic is above
+-- no bound is above the greatest cost plus any number that no board's heuristic is above
 abbrev pub BoundsAreLow : Type 0
 BoundsAreLow =
     (task : Task) (bound most : ℕ) (best : Option (ℕ × Vec Move Global)) (cause : Cause)

@@ -63,20 +63,21 @@ best_of (Some best) = Some (best.0, best.1.items)
 abbrev pub IsAboveSums : Task → ℕ → Type 0
 IsAboveSums task most = (b : BoardModel) → IsBoard b → b.grid ≡ task.goal.grid → task.sum b ≤ most
 
--- No plan costs less than the bound, which is at least the heuristic of the start, and at most the sum of `GREATEST_COST` and of what no
--- board's heuristic is above; and the best plan and the cause are as they may be.
+-- No plan costs less than the bound. The bound is at least the heuristic of the start, and at most `GREATEST_COST` plus any number that no
+-- board's heuristic is above. The best plan and the cause are allowed with this bound.
 abbrev pub IsTrueBound : Task → ℕ → Option (ℕ × Vec Move Global) → Cause → Type 0
 IsTrueBound task bound best cause =
     NothingBelow task.rule task.start task.goal bound × (task.sum task.start ≤ bound) × ((most : ℕ) → IsAboveSums task most → bound ≤ GREATEST_COST + most)
     × IsBestPlan task bound (best_of best) × AllowsCause bound cause
 
--- the bound stands without rows and without a plan, since memory was refused
+-- the bound has neither rows nor a plan, since memory was refused
 abbrev pub StandsAlone : Option (ℕ × Vec Move Global) → Cause → Type 0
 StandsAlone best cause = (best ≡ None) × ((refused : OutOfMemory) × (cause ≡ Memory (Refused refused)))
 
--- What an outcome says is true: that its plan is least and its rows prove it, of which neither the cost nor the count of moves is
--- above `GREATEST_COST`; that no plan leads to the goal; or that no plan costs less than a bound, which its rows prove. Where memory was
--- refused for these rows, they exist all the same.
+-- What an outcome says is true:
+-- - `Optimal`: the plan is least, and the rows prove it. Neither its cost nor its count of moves is above `GREATEST_COST`.
+-- - `Unsolvable`: no plan leads to the goal, and the reason is allowed.
+-- - `Bounded`: no plan costs less than the bound, and the rows prove it. Where memory was refused for the rows, such rows exist all the same.
 abbrev pub Answers : Task → Outcome → Type 0
 Answers task (Optimal cost plan rows) =
     Leads task.rule task.start plan.items task.goal cost × IsLeast task.rule task.start task.goal cost × AreRowsOf task rows.items cost × (cost ≤ GREATEST_COST) × (length plan.items ≤ GREATEST_COST)

@@ -42,7 +42,7 @@ pub fn bounds_are_low()
     ensures start { BoundsReachTheStart }
 {}
 
-/// Rows prove what an ending says of a cost, though it lists none.
+/// Rows that prove what an ending says of a cost exist, though it lists none.
 pub fn endings_have_proofs()
     ensures { EndingsHaveProofs }
 {}

@@ -1,4 +1,4 @@
-//! Outcomes, the reasons and causes that they name, and the words for these.
+//! Outcomes, the reasons and causes that they name, and the word for each in a report.
 
 ghost use Rattle.std.specs.Prelude.{◌≡◌};
 ghost use Rattle.outcomes.specs.Words.{why_word, cause_word};
@@ -28,7 +28,7 @@ impl Why {
     }
 }
 
-/// How memory came to be wanting.
+/// How memory ran out.
 #[derive(Clone, Copy, Debug, PartialEq, Eq)]
 pub enum Want {
     /// A list of steps says so.
@@ -42,7 +42,7 @@ pub enum Want {
 pub enum Cause {
     /// The limit on expansions was reached.
     Limit,
-    /// Memory was wanting.
+    /// Memory ran out.
     Memory(Want),
     /// A thread could not be started.
     Start,
@@ -91,7 +91,7 @@ pub enum Outcome {
 }
 
 impl Outcome {
-    /// The same without rows, which are given back.
+    /// The same without rows, which are freed.
     pub fn without_rows(self) -> Ending
         ensures { result ≡ without_rows self }
     {
@@ -108,7 +108,7 @@ impl Outcome {
     }
 }
 
-/// What a run answers, but for rows.
+/// What a run answers, without the rows.
 #[derive(Debug, Drop)]
 pub enum Ending {
     /// A plan of least cost.

@@ -124,7 +124,7 @@ one_board grid key a b has has' = same_board a b has.board has'.board (has.sides
 pub after_slide : (b c : BoardModel) (moved : Moved) → IsMoved b moved → HasSearchKey moved.shape moved.key c → c ≡ blank_exchange b moved.slide.from
 after_slide b c moved is has = one_board moved.shape moved.key c (blank_exchange b moved.slide.from) has is.key
 
--- and its blank is where the tile stood
+-- and its blank is where the tile was
 pub blank_moved : (b c : BoardModel) (moved : Moved) → IsMoved b moved → HasSearchKey moved.shape moved.key c → blank_of c ≡ moved.slide.from
 blank_moved b c moved is has =
     let slide = is.slide in

@@ -1,4 +1,4 @@
--- Who owns which board: by the cell of its blank, or by its hash, the exclusive or of one word for each tile and the cell on which it stands (Zobrist 1970).
+-- The owner of a board: by the cell of its blank, or by its hash. The hash is the exclusive or of one word for each tile and its cell (Zobrist 1970).
 use Rattle.std.specs.Prelude.{ℕ, zero, suc, ◌≡◌, ◌+◌, ◌-◌, ◌*◌, ◌%◌, ◌<◌, ◌==◌, if◌then◌else◌, List, [], ◌∷◌, length, slice_index, bit_xor}
 use Rattle.std.proofs.Math.Nat.{mod-lt}
 use Rattle.board.specs.Shapes.{cell_count}

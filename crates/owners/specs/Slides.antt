@@ -7,7 +7,7 @@ use Rattle.search_keys.specs.SearchKeys.{HasSearchKey}
 use Rattle.owners.specs.declared.spread.Moved.{Moved}
 use Rattle.owners.specs.declared.spread.Slide.{Slide}
 
--- on this board, which has this grid, the tile stands where the slide says, and so does the blank
+-- on this board, which has this grid, the tile and the blank are where the slide says
 pub record IsSlide (grid : ShapeModel) (b : BoardModel) (slide : Slide) : Type 0 where
   pub board : IsBoard b
   pub sides : b.grid ≡ grid

@@ -13,7 +13,7 @@ use search_keys::KeyedBoard;
 #[derive(Clone, Copy, Debug)]
 pub struct Slide {
     pub tile: u8,
-    /// The cell on which the tile stands.
+    /// The cell of the tile.
     pub from: usize,
     /// The cell of the blank.
     pub to: usize,

@@ -14,9 +14,9 @@ use std::marker::Model;
 // As many words as boards of 5 by 5 need: one for each of 24 tiles on each of 25 cells.
 const WORD_COUNT: usize = 600;
 
-/// By the exclusive or of one word for each tile and the cell on which it stands (Zobrist 1970).
-/// The words are those of `SplitMix64` from eight zero bytes on, tile by tile from 1 on, and for
-/// each tile cell by cell.
+/// By the exclusive or of one word for each tile and its cell (Zobrist 1970). The words are those
+/// of `SplitMix64` from eight zero bytes on, tile by tile from 1 on, and for each tile cell by
+/// cell.
 #[derive(Debug, Drop)]
 pub struct Zobrist {
     // Those of a smaller board are the first of these.

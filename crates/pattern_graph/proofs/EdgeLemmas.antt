@@ -53,12 +53,12 @@ moved_away from to x ne = grind (arith, nat_tests)
 map_more : (f : ℕ → ℕ) (xs ys : List ℕ) → ((x : ℕ) → Contains xs x → Contains ys x) → (z : ℕ) → Contains (map f xs) z → Contains (map f ys) z
 map_more f xs ys more z has = let h = from_map f xs z has in subst (Contains (map f ys)) h.2 (in_map f ys h.0 (more h.0 h.1))
 
--- the set after an exchange hangs on the set alone
+-- the set after an exchange depends only on the set
 pub replaced_same : (from to : ℕ) (xs ys : List ℕ) → AreSame xs ys → AreSame (replaced from to xs) (replaced from to ys)
 unfolding moved
 replaced_same from to xs ys same z = (map_more (moved from to) xs ys (λ x. (same x).0) z, map_more (moved from to) ys xs (λ x. (same x).1) z)
 
--- no tile stands where the one that went stood
+-- no tile is where the one that went was
 pub replaced_gone : (from to : ℕ) (xs : List ℕ) → from ≢ to → Contains (replaced from to xs) from → ⊥
 unfolding moved
 replaced_gone from to xs ne has = let h = from_map (moved from to) xs from has in moved_away from to h.0 ne h.2
@@ -274,7 +274,7 @@ module _ (r : Regions) (regions : HasRegions r) (region : ℕ) (home : Home) (at
 
 -- ---- the edges of the first regions
 
--- the edge stands between two places
+-- the edge is between two places
 abbrev pub StandsIn : List Edge → ℕ → ℕ → Edge → Type 0
 StandsIn edges low high e = (at : ℕ) × (low ≤ at) × (at < high) × (slice_get edges at ≡ Some e)
 
@@ -410,7 +410,7 @@ row_placed r cells cell set n regions placed inside place count =
     let rows = regions.rows in
     omega arith
 
--- what stands there is the region
+-- the number there is the region
 row_read : (r : Regions) (xs : List ℕ) (blank set n value : ℕ) → set ≡ set_place xs → n ≡ cell_count r.shape → set * n + blank < length r.numbers.items → value ≡ get_or r.numbers.items (set * n + blank) value → value ≡ region_in r xs blank
 row_read r xs blank set n value place count inside is = get_or_read r.numbers.items (set * n + blank) value inside is 0 ∙ (λ i. get_or r.numbers.items (place i * count i + blank) 0)
 
@@ -442,7 +442,7 @@ module _ (r : Regions) (all : List ℕ) (tile to : ℕ) (placed : IsPlaced r.sha
   unfolding kept_cells
   after = still_placed r kept_cells tile to placed inside free
 
-  -- the kept_cells after a tile's move
+  -- the cells after a tile's move are placed
   pub moved_placed : IsPlaced r.shape r.count (take r.count (set all tile to))
   unfolding kept_cells
   moved_placed = subst (IsPlaced r.shape r.count) (sym (take_set r.count all tile to inside)) after.0

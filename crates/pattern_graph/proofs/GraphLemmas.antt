@@ -65,7 +65,7 @@ replaced_other : (from to : ℕ) (xs : List ℕ) → Other from xs → replaced 
 replaced_other from to [] other = refl
 replaced_other from to (x ∷ xs) other = λ i. cond-false (eqb x from) to x (ne_eqb x from (λ e. other.0 (sym e))) i ∷ replaced_other from to xs other.1 i
 
--- no tile stands there, so none is moved
+-- no tile is there, so none is moved
 weight_other : (rule : WeightsModel) (tiles cells : List ℕ) (x : ℕ) → Other x cells → weight_on rule tiles cells x ≡ 0
 weight_other rule [] cells x other = refl
 weight_other rule (tile ∷ tiles) [] x other = refl
@@ -396,7 +396,7 @@ pub record Parts : Type 0 where
   pub numbers : List ℕ
   pub homes : List Home
 
--- the region of the blank's cell while tiles stand on those cells
+-- the region of the blank's cell while tiles are on those cells
 abbrev pub region_at : Parts → List ℕ → ℕ → ℕ
 region_at p cells blank = slice_index p.numbers (set_place cells * cell_count p.shape + blank)
 

@@ -79,7 +79,7 @@ below_step z (x ∷ xs) differ =
     (λ (ne : x ≢ z). grind (arith, nat_tests, below_step z xs differ.1, below-cons (suc z) x xs, below-cons z x xs))
     (cases_eq x z)
 
--- of different numbers not more than z are below z
+-- at most z of different numbers are below z
 pub below_low : (z : ℕ) (xs : List ℕ) → Differ xs → below z xs ≤ z
 below_low zero xs differ = let e = below-zero xs in omega (arith, e)
 below_low (suc z) xs differ = omega (arith, below_low z xs differ, below_step z xs differ)
@@ -588,8 +588,8 @@ below_replaced z from to (x ∷ xs) differ there =
     grind (arith, nat_tests, a, b, below_replaced z from to xs differ.1 rest_in))
     (cases_eq x from)
 
--- Where a cell stands after a tile moves: bx, bf and bt tiles were below the cell, below where the tile leaves and below where it
--- comes to, and now b are below the cell and j below the tile.
+-- The position of a cell after a tile moves. Before, bx tiles were below the cell, bf below where the tile leaves, and bt below where it
+-- comes to. Now b are below the cell, and j below the tile.
 moved_at : (x from to bx bf bt b j : ℕ) → x ≢ from → x ≢ to → from ≢ to → (from < x → bf < bx) → (x < from → bx < bf) → (to < x → bt ≤ bx) → (x < to → bx < bt) → (to < from → bt ≤ bf) → (from < to → bf < bt) → j + cond (ltb from to) 1 0 ≡ bt → b + cond (ltb from x) 1 0 ≡ bx + cond (ltb to x) 1 0 → b ≡ moved_position bf j bx
 moved_at x from to bx bf bt b j a1 a2 a3 f1 f2 t1 t2 d1 d2 is_j is_b = grind (arith, nat_tests)
 

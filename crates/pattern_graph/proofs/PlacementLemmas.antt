@@ -83,7 +83,7 @@ module _ (grid : ShapeModel) (count : ℕ) where
     pub sparse_same : sparse_of (cell_count grid) xs ≡ sparse_of (cell_count grid) ys → xs ≡ ys
     sparse_same same = sym (sparse_digits xs one) ∙ ap (digits_in n count) same ∙ sparse_digits ys other
 
-  -- the tiles stand on a set's cells in an order
+  -- the tiles are on a set's cells in an order
   pub record IsOrdered (cells : List ℕ) (order : ℕ) (xs : List ℕ) : Type 0 where
     pub placed : IsPlaced grid count xs
     pub same : AreSame xs cells
@@ -340,7 +340,7 @@ sets_all g least old new limit end done = record {
   others = done.others;
 }
 
--- what stands at a place of a front, and behind one
+-- the item at a place of a front, and behind one
 taken : {A : Type 0} (xs : List A) (count i : ℕ) → i < count → slice_get (take count xs) i ≡ slice_get xs i
 taken xs zero i low = absurd (omega (arith, low))
 taken [] (suc count) i low = refl

@@ -41,7 +41,7 @@ wanders_back grid cells from (m ∷ moves) to free way =
     let last : Wanders grid cells way.0 (opposite m ∷ []) from = (from, lies_back grid m from way.0 free.inside way.1, free.free, refl) in
     (rest.0 ++ (opposite m ∷ []), wanders_on grid cells to rest.0 way.0 (opposite m ∷ []) from rest.1 last)
 
--- the ways hang on which cells are taken alone
+-- the ways depend only on which cells are taken
 pub wanders_same : (grid : ShapeModel) (xs ys : List ℕ) (from : ℕ) (moves : List Move) (to : ℕ) → AreSame xs ys → Wanders grid xs from moves to → Wanders grid ys from moves to
 wanders_same grid xs ys from [] to same way = way
 wanders_same grid xs ys from (m ∷ moves) to same way = (way.0, way.1, (λ on. way.2 ((same way.0).1 on)), wanders_same grid xs ys way.0 moves to same way.3)
@@ -139,9 +139,9 @@ all_settled grid cells labels are settled = record {
 
 -- ---- numbers of regions, one cell after another
 
--- ---- how many tiles stand below the next cell
+-- ---- how many tiles are below the next cell
 
--- as many as below the cell before it, if none stands there
+-- as many as below the cell before it, if none is on that one
 next_free : (cell : ℕ) (cells : List ℕ) → ¬ Contains cells cell → below (cell + 1) cells ≡ below cell cells
 next_free cell cells free = ap (λ (k : ℕ). below k cells) (add-one cell) ∙ below_absent cell cells free
 

@@ -107,7 +107,7 @@ below_gap (suc j) c xs differ =
     let s = below_step (j + c) xs differ in
     omega (arith, rest, f, s)
 
--- of two free cells the greater has more free cells below it
+-- the greater of two free cells has more free cells below it
 pub free_less : (z c : ℕ) (xs : List ℕ) → Differ xs → z < c → ¬ Contains xs z → z - below z xs < c - below c xs
 free_less z c xs differ lt free =
     let g = below_gap (c - suc z) (suc z) xs differ in
@@ -435,7 +435,7 @@ module _ (r : Regions) (nodes : List ℕ) (blank : ℕ) (others : List ℕ) (lis
   differ : Differ (blank ∷ others)
   differ = differ_in (cell_count r.shape) (blank ∷ others) listing
 
-  -- a tile stands there
+  -- a tile is there
   pub filling_tile : (unit : ℕ) (old new : List ℕ) (cell order : ℕ) → Contains others cell → IsFilling r nodes blank others unit old cell order new → IsFilling r nodes blank others unit old (cell + 1) (order + unit) new
   filling_tile unit old new cell order has filling = record {
     row = row_pass (blank ∷ others) (λ z. node_value r nodes (blank ∷ (others ++ z ∷ []))) old new cell differ (suc has.0, (let lt = has.1 in omega (arith, lt)), has.2) filling.row;
@@ -452,7 +452,7 @@ module _ (r : Regions) (nodes : List ℕ) (blank : ℕ) (others : List ℕ) (lis
       let next : below (cell + 1) others ≡ below cell others = ap (λ k. below k others) (plus_one cell) ∙ below_next_out cell others out in
       is ∙ ap (λ k. order_of others + k * unit) (sym next)
 
-  -- the blank stands there
+  -- the blank is there
   pub filling_blank : (unit : ℕ) (old new : List ℕ) (cell order : ℕ) → cell ≡ blank → IsFilling r nodes blank others unit old cell order new → IsFilling r nodes blank others unit old (cell + 1) order new
   filling_blank unit old new cell order e filling = record {
     row = row_pass (blank ∷ others) (λ z. node_value r nodes (blank ∷ (others ++ z ∷ []))) old new cell differ (0, omega arith, sym e) filling.row;
@@ -463,7 +463,7 @@ module _ (r : Regions) (nodes : List ℕ) (blank : ℕ) (others : List ℕ) (lis
   free_of_both cell out ne (zero, lt, is) = ne (sym is)
   free_of_both cell out ne (suc k, lt, is) = out (k, omega (arith, lt), is)
 
-  -- the last tile can stand there
+  -- the last tile can be there
   pub filling_free : (unit : ℕ) (old new : List ℕ) (cell order value : ℕ) → ¬ Contains others cell → cell ≢ blank → value ≡ node_value r nodes (blank ∷ (others ++ cell ∷ [])) → IsFilling r nodes blank others unit old cell order new → IsFilling r nodes blank others unit old (cell + 1) order (new ++ value ∷ [])
   filling_free unit old new cell order value out ne is filling = record {
     row = row_push (blank ∷ others) (λ z. node_value r nodes (blank ∷ (others ++ z ∷ []))) old new cell value differ (free_of_both cell out ne) is filling.row;

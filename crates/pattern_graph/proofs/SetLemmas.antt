@@ -18,7 +18,7 @@ use Rattle.pattern_graph.specs.Orders.{below}
 use Rattle.pattern_graph.specs.Sets.{choose, set_place, set_at, AreSame}
 use Rattle.pattern_graph.proofs.OrderLemmas.{below-cons, below-push, below-zero, below-all}
 
--- ---- in how many ways cells can be chosen
+-- ---- the number of ways to choose cells
 
 pub choose-zero : (n : ℕ) → choose n 0 ≡ 1
 unfolding choose
@@ -383,7 +383,7 @@ in_held m (x ∷ xs) some =
     (λ (ne : x ≢ m). let same = held_miss m x xs ne in let rest = in_held m xs (omega arith) in (suc rest.0, (let low = rest.1 in omega arith), rest.2))
     (cases_eq x m)
 
--- of different cells one that is in both lists or in none is held as often
+-- two lists with the same cells, each once, hold each cell as often
 pub held_same : (xs ys : List ℕ) → Differ xs → Differ ys → AreSame xs ys → (m : ℕ) → held m xs ≡ held m ys
 held_same xs ys dx dy same m =
     agree (held m xs) (held m ys) (held_once m xs dx) (held_once m ys dy)

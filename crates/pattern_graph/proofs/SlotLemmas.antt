@@ -170,7 +170,7 @@ filled_all r nodes slots m cell end filled = record {
 }
 
 module _ {A : Type 0} (r : Regions) (nodes slots : List A) (cells : List ℕ) (m blank : ℕ) (placed : IsPlaced r.shape r.count cells) (number : m ≡ placement_of r cells) (filled : AreFilledUpTo r nodes m blank slots) where
-  -- a tile stands there
+  -- a tile is there
   pub filled_pass : Contains cells blank → AreFilledUpTo r nodes m (blank + 1) slots
   filled_pass has = record {
     size = filled.size;
@@ -197,7 +197,7 @@ module _ {A : Type 0} (r : Regions) (nodes slots : List A) (cells : List ℕ) (m
         let size = filled.size in
         omega (arith, low, size, slot_at)
 
-    -- the blank can stand there
+    -- the blank can be there
     pub filled_more : (node : ℕ) → node ≡ node_in r (record { blank = blank; cells = cells }) → node < length nodes → value ≡ get_or nodes node value → AreFilledUpTo r nodes m (blank + 1) (set slots slot value)
     filled_more node node_at inside is = record {
       size = length-set slots slot value ∙ filled.size;
@@ -297,7 +297,7 @@ map_back f g (x ∷ xs) back =
     let rest = map_back f g xs (λ y there. back y (suc there.0, (let low = there.1 in omega arith), there.2)) in
     λ i. first i ∷ rest i
 
--- the tiles stand on the cells of a set, in an order
+-- the tiles are on the cells of a set, in an order
 pub record IsSetPlacement (n count set order : ℕ) (placed : List ℕ) : Type 0 where
   pub listing : IsListing n placed
   pub size : length placed ≡ count
@@ -389,7 +389,7 @@ set_marks n count set order xs ys marks is placement are cell =
       λ there. (here cell).1 ((placement.same cell).0 there),
     )
 
--- so are the cells of the tiles, which stand on the set
+-- so are the cells of the tiles, which are on the set
 pub marked_placement :
     (r : Regions) (set order end : ℕ) (cells positions : List ℕ)
     → cells ≡ set_at (cell_count r.shape) r.count set

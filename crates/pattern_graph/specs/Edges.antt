@@ -21,7 +21,7 @@ pub record AreSetCells (r : Regions) (set : ℕ) (array : List ℕ) : Type 0 whe
   pub regions : AreGroupRegions r
   pub cells : IsRising r set (take r.count array)
 
--- the tile on a cell can go in a direction, to where the blank of a region stands
+-- the tile on a cell can go in a direction, to a free cell of a region
 pub record IsStep (r : Regions) (cells : List ℕ) (region from : ℕ) (m : Move) (to : ℕ) : Type 0 where
   pub towards : LiesTowards r.shape m from to
   pub blank : IsFree r.shape cells to
@@ -40,11 +40,11 @@ pub record AreEdgesFound (r : Regions) (cells : List ℕ) (region tried : ℕ) (
   pub complete : (tile number to : ℕ) → number < 4 → tile * 4 + number < tried → IsStep r cells region (slice_index cells tile) (slice_index_or all_moves number U) to
       → (e : Edge) × Contains found e × IsEdgeOf r cells (slice_index cells tile) to e
 
--- the edges found for the first tiles and directions stand behind others
+-- the edges found for the first tiles and directions are behind others
 abbrev pub HasFound : Regions → List ℕ → ℕ → ℕ → List Edge → List Edge → Type 0
 HasFound r cells region tried old new = (found : List Edge) × (new ≡ old ++ found) × AreEdgesFound r cells region tried found
 
--- the edge begins in a region: it is one of a tile that goes into it, wherever the tiles stand on its set
+-- the edge begins in a region: it is one of a tile that goes into it, wherever the tiles are on its set
 abbrev pub IsTrueEdge : Regions → ℕ → Edge → Type 0
 IsTrueEdge r region e =
     (cells : List ℕ) (blank : ℕ) → IsPlaced r.shape r.count cells → IsFree r.shape cells blank → region_in r cells blank ≡ region

@@ -68,7 +68,7 @@ pub record IsPast (r : Regions) (es : Edges) (weights : List ℕ) (node : ℕ) (
   pub other : to ≡ e.region * factorial r.count + moved_order r.count (node % factorial r.count) e.from e.to
   pub cost : c ≡ slice_index weights (tile_of r.count (node % factorial r.count) e.from)
 
--- the graph of nodes and edges is that of views and view moves, with the moves that cost nothing drawn together
+-- the graph of nodes and edges is that of views and view moves, with the moves that cost nothing contracted
 pub record IsGraph (a : Abstraction) (r : Regions) (es : Edges) (weights : List ℕ) : Type 0 where
   pub inside : (v : ViewModel) → IsView a.grid a.tiles v → node_in r v < node_count r
   -- each node has a view

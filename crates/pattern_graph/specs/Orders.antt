@@ -1,4 +1,4 @@
--- Orders: how tiles stand on a set of cells, whatever the cells are.
+-- Orders: how tiles lie on a set of cells, whatever the cells are.
 use Rattle.std.specs.Prelude.{ℕ, zero, suc, ◌+◌, ◌-◌, ◌*◌, ◌/◌, ◌%◌, ◌==◌, ◌≡◌, ◌<◌, ◌≤◌, List, [], ◌∷◌, ◌++◌, length, map, count_by, nat_lt, if◌then◌else◌, All}
 use Rattle.std.specs.List.{position_or_len}
 use Rattle.pattern_index.specs.Laws.{factorial}
@@ -8,17 +8,17 @@ use Rattle.pattern_index.specs.Ranks.{spread}
 abbrev pub below : ℕ → List ℕ → ℕ
 below cell cells = count_by (λ other. nat_lt other cell) cells
 
--- The order of what is left of a list, where tiles stand on those of `seen`. Each cell counts how many of those before it are
--- smaller, times in how many orders those can be.
+-- The order of what is left of a list, where tiles are on those of `seen`. Each cell counts as the number of smaller ones before it, times
+-- the number of orders of all those before it.
 unfoldable pub order_after : List ℕ → List ℕ → ℕ
 order_after seen [] = 0
 order_after seen (x ∷ xs) = below x seen * factorial (length seen) + order_after (x ∷ seen) xs
 
--- the order of the cells on which tiles stand
+-- the order of the cells that tiles are on
 unfoldable pub order_of : List ℕ → ℕ
 order_of cells = order_after [] cells
 
--- for each tile, how many tiles stand on smaller cells, by their order
+-- for each tile, the number of tiles on smaller cells, by their order
 unfoldable pub positions_at : ℕ → ℕ → List ℕ
 positions_at zero order = []
 positions_at (suc count) order = map (spread (order / factorial count)) (positions_at count (order % factorial count)) ++ (order / factorial count) ∷ []
@@ -27,15 +27,15 @@ positions_at (suc count) order = map (spread (order / factorial count)) (positio
 abbrev pub tile_of : ℕ → ℕ → ℕ → ℕ
 tile_of count order position = position_or_len (λ other. other == position) (positions_at count order)
 
--- where a tile stands after two at neighbouring positions are exchanged
+-- the position of a tile after two at neighbouring positions are exchanged
 abbrev pub exchanged_position : ℕ → ℕ → ℕ
 exchanged_position position other = if other == position then position + 1 else (if other == position + 1 then position else other)
 
--- where a tile stands after the tile at a position has left it
+-- the position of a tile after the tile at a position has left it
 abbrev pub closed_up : ℕ → ℕ → ℕ
 closed_up from position = if nat_lt from position then position - 1 else position
 
--- where a tile stands after the tile at a position has come to another
+-- the position of a tile after the tile at a position has come to another
 abbrev pub moved_position : ℕ → ℕ → ℕ → ℕ
 moved_position from to position = if position == from then to else spread to (closed_up from position)
 

@@ -24,7 +24,7 @@ placement_count cells count = choose cells count * factorial count
 abbrev pub IsOnePerPlacement : {A : Type 0} → GroupModel → List A → Type 0
 IsOnePerPlacement g least = length least ≡ placement_count (cell_count g.grid) (length g.tiles)
 
--- tiles stand on these different cells, which are marked
+-- tiles are on these different cells, which are marked
 pub record AreMarkedCells (grid : ShapeModel) (count : ℕ) (cells : List ℕ) (marks : List Bool) : Type 0 where
   pub placed : IsPlaced grid count cells
   pub marked : AreMarksOf cells marks
@@ -59,7 +59,7 @@ PlacesWithoutViews =
     → sparse < sparse_size_of g
     → HasNoView g sparse ↔ ((v : ViewModel) → IsView g.grid g.tiles v → sparse_in g.grid v ≢ sparse)
 
--- at the sparse place of each placement on a set of cells stands what a row has at its order, and at the others what was there
+-- the sparse place of each placement on a set of cells has what a row has at its order; the others have what they had
 pub record AreWritten {A : Type 0} (g : GroupModel) (cells : List ℕ) (row old new : List A) : Type 0 where
   pub size : length new ≡ length old
   pub written : (xs : List ℕ) → IsPlaced g.grid (length g.tiles) xs → AreSame xs cells → slice_get new (sparse_of (cell_count g.grid) xs) ≡ slice_get row (order_of xs)
@@ -84,7 +84,7 @@ pub record AreLarger (r : Regions) (larger : List ℕ) : Type 0 where
   pub places : (xs : List ℕ) (z : ℕ) → IsListing (cell_count r.shape) xs → length xs ≡ r.count - 1 → z < cell_count r.shape → ¬ Contains xs z
       → slice_index larger (set_place xs * cell_count r.shape + z) ≡ set_place (xs ++ z ∷ [])
 
--- behind the old values stand those of the free cells below one, in rising order
+-- behind the old values are those of the free cells below one, in rising order
 pub record IsRowAppended (xs : List ℕ) (value : ℕ → ℕ) (old : List ℕ) (cell : ℕ) (new : List ℕ) : Type 0 where
   pub size : length new ≡ length old + (cell - below cell xs)
   pub kept : (i : ℕ) → i < length old → slice_index new i ≡ slice_index old i
@@ -106,7 +106,7 @@ pub record AreSetOrders (g : GroupModel) (cells positions : List ℕ) : Type 0 w
 abbrev pub placement_of : Regions → List ℕ → ℕ
 placement_of r = placement_in r.count
 
--- there is a slot for each view, and that of a view of which P holds has the value of its node
+-- there is a slot for each view; where P holds of a view, its slot has the value of its node
 pub record AreFilled {A : Type 0} (r : Regions) (nodes : List A) (P : List ℕ → ℕ → Type 0) (slots : List A) : Type 0 where
   pub size : length slots ≡ digit_base r.shape ^ suc r.count
   pub values : (cells : List ℕ) (blank : ℕ) → IsPlaced r.shape r.count cells → IsFree r.shape cells blank → P cells blank

@@ -18,12 +18,12 @@ pub record IsPlaced (grid : ShapeModel) (count : ℕ) (cells : List ℕ) : Type 
   pub listing : IsListing (cell_count grid) cells
   pub one_each : length cells ≡ count
 
--- the blank can stand on this cell while tiles stand on those
+-- the blank can be on this cell while tiles are on those
 pub record IsFree (grid : ShapeModel) (cells : List ℕ) (cell : ℕ) : Type 0 where
   pub inside : cell < cell_count grid
   pub free : ¬ Contains cells cell
 
--- tiles stand on different cells, and the blank on another one
+-- tiles are on different cells, and the blank is on another one
 pub record AreCellsApart (grid : ShapeModel) (count : ℕ) (cells : List ℕ) (blank : ℕ) : Type 0 where
   pub placed : IsPlaced grid count cells
   pub free : IsFree grid cells blank
@@ -33,7 +33,7 @@ abbrev pub Wanders : ShapeModel → List ℕ → ℕ → List Move → ℕ → T
 Wanders grid cells from [] to = to ≡ from
 Wanders grid cells from (m ∷ moves) to = (next : ℕ) × LiesTowards grid m from next × (¬ Contains cells next) × Wanders grid cells next moves to
 
--- the region of the blank's cell while tiles stand on those cells
+-- the region of the blank's cell while tiles are on those cells
 abbrev pub region_in : Regions → List ℕ → ℕ → ℕ
 region_in r cells blank = slice_index r.numbers.items (set_place cells * cell_count r.shape + blank)
 
@@ -77,7 +77,7 @@ pub record AreSameRegions (r r' : Regions) : Type 0 where
 
 -- ---- edges
 
--- the blank, on a free cell, is a neighbour of a tile that stands on another
+-- the blank, on a free cell, is a neighbour of a tile on another
 pub record IsCrossing (grid : ShapeModel) (cells : List ℕ) (m : Move) (from to : ℕ) : Type 0 where
   pub blank : IsFree grid cells to
   pub tile : Contains cells from
@@ -94,7 +94,7 @@ pub record IsEdgeOf (r : Regions) (cells : List ℕ) (from to : ℕ) (e : Edge) 
 abbrev pub HasEdge : Edges → ℕ → Edge → Type 0
 HasEdge es region e = (at : ℕ) × (slice_index es.starts.items region ≤ at) × (at < slice_index es.starts.items (suc region)) × (slice_get es.edges.items at ≡ Some e)
 
--- each edge is one of a tile that goes into the region, wherever the tiles stand on its set, and each such tile has one
+-- each edge is one of a tile that goes into the region, wherever the tiles are on its set, and each such tile has one
 pub record AreEdges (r : Regions) (es : Edges) : Type 0 where
   pub starts_length : length es.starts.items ≡ suc (length r.homes.items)
   pub rising : (region : ℕ) → region < length r.homes.items → slice_index es.starts.items region ≤ slice_index es.starts.items (suc region)

@@ -3,13 +3,13 @@ use Rattle.std.specs.Prelude.{ℕ, zero, suc, ◌+◌, ◌-◌, ◌<◌, ◌≤�
 use Rattle.pattern_graph.specs.Orders.{below}
 use Rattle.pattern_graph.specs.declared.sets.Choices.{Choices}
 
--- in how many ways `count` of `cells` cells can be chosen
+-- the number of ways to choose `count` of `cells` cells
 unfoldable pub choose : ℕ → ℕ → ℕ
 choose cells zero = 1
 choose zero (suc count) = 0
 choose (suc cells) (suc count) = choose cells count + choose cells (suc count)
 
--- the place of a set: a cell that has i of the set below it counts in how many ways i + 1 of the cells below it can be chosen
+-- the place of a set: a cell that has i of the set below it counts as the number of ways to choose i + 1 of the cells below it
 unfoldable pub set_place : List ℕ → ℕ
 set_place cells = sum (map (λ cell. choose cell (suc (below cell cells))) cells)
 
@@ -40,6 +40,6 @@ pub record CanChoose (c : Choices) (cells : ℕ) : Type 0 where
 
 -- ---- which numbers are tiles of a group, or cells of a set
 
--- a number is marked if it is one of the tiles, and else it isn't; none is behind the marks
+-- a number is marked exactly if it is one of the tiles; no tile is behind the marks
 abbrev pub AreMarksOf : List ℕ → List Bool → Type 0
 AreMarksOf tiles marks = (number : ℕ) → IsTrue (slice_index_or marks number false) ↔ Contains tiles number

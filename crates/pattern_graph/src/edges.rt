@@ -16,7 +16,7 @@ use std::alloc::Global;
 /// A tile of the group goes to the blank's cell. Positions are counted from 0, at most 8.
 #[derive(Clone, Copy)]
 pub struct Edge {
-    /// The tile's position before that: on how many smaller cells other tiles of the group stand.
+    /// The tile's position before that: the number of other tiles of the group on smaller cells.
     pub from: u8,
     /// Its position after that.
     pub to: u8,
@@ -53,7 +53,7 @@ impl Edges {
         Ok(edges)
     }
 
-    // The same once more.
+    // A copy.
     pub(crate) fn copy(&self, alloc: Global) -> Result<Self, OutOfMemory>
         ensures starts { IfOk result (λ copy. copy.starts.items ≡ self.now.starts.items) }
         ensures edges { IfOk result (λ copy. copy.edges.items ≡ self.now.edges.items) }
@@ -101,7 +101,7 @@ fn add_edges(
     Ok(())
 }
 
-// The edge of a tile of a region's set in a direction, where the blank stands there.
+// The edge of a tile of a region's set in a direction, if it leads to a free cell of the region.
 fn find_edge(
     regions: &Regions,
     region: usize,

@@ -17,8 +17,8 @@ use crate::regions::Regions;
 use board::{Board, Weights};
 use pattern_index::{Group, cells_of};
 
-/// The nodes of a group's views and the edges between them. A node is a region with an order: its
-/// number is that of the region times how many orders there are, and the order.
+/// The nodes of a group's views and the edges between them. A node is a region with an order. Its
+/// number is the region's times the number of orders, plus the order.
 #[derive(Drop)]
 pub struct Graph {
     /// The regions of the blank's cells.
@@ -32,7 +32,7 @@ pub struct Graph {
 }
 
 impl Graph {
-    /// That of a group, in a frame that fits it.
+    /// The graph of a group, in a frame that fits it.
     pub fn new(frame: Frame, group: &Group, weights: &Weights) -> Self
         requires fits { FitsGroup frame group.now }
         requires weights { weights.now.grid ≡ group.now.grid }

@@ -8,7 +8,7 @@
 //! gives the graph of the group's views and view moves (`IsGraphOf`), and each edge leads to a node
 //! (`IsSoundGraph`): the searches of `pattern_search` need no more.
 //!
-//! - A region hangs on the set of the tiles' cells alone, and a set has its place among those of
+//! - A region depends only on the set of the tiles' cells, and a set has its place among those of
 //!   its size (`Choices`). How the tiles lie on the set is an order (`Orders`): for each tile how
 //!   many tiles before it are on smaller cells.
 //! - A node is a region with an order. An edge leads from region to region where a tile goes to the

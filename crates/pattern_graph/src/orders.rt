@@ -1,4 +1,4 @@
-//! Orders: how tiles stand on a set of cells, whatever the cells are.
+//! Orders: how tiles lie on a set of cells, whatever the cells are.
 
 ghost use Rattle.std.specs.Prelude.{ℕ, ◌≡◌, ◌+◌, ◌<◌, ◌≤◌, ◌==◌, ◌++◌, length, map, All, IfOk};
 ghost use Rattle.std.specs.Prelude.{OnOk};
@@ -14,7 +14,7 @@ ghost use Rattle.pattern_graph.specs.Graphs.{AreMoves, HasPasses, HasPassesTo, I
 use memory::{OutOfMemory, copy_of, push};
 use std::alloc::Global;
 
-/// The numbers from 1 to this one multiplied: how many orders this many tiles have.
+/// The product of the numbers from 1 to this one: how many orders this many tiles have.
 pub fn factorial(count: usize) -> usize
     requires { count ≤ 9 }
     ensures value { result ≡ factorial count }
@@ -42,7 +42,7 @@ pub(crate) fn count_below(cells: &[u8], cell: u8) -> usize
     count
 }
 
-// The order of the cells on which tiles stand.
+// The order of the cells that tiles are on.
 pub(crate) fn order_of(cells: &[u8]) -> usize
     requires { length cells.now ≤ 9 }
     ensures value { result ≡ order_of cells.now }
@@ -57,7 +57,7 @@ pub(crate) fn order_of(cells: &[u8]) -> usize
     order
 }
 
-// Writes for each tile how many tiles stand on smaller cells, by their order.
+// Writes for each tile the number of tiles on smaller cells, by their order.
 pub(crate) fn write_positions(order: usize, positions: &mut [u8])
     requires { IsOrderOf (length positions.old) order }
     ensures { positions.new ≡ positions_at (length positions.old) order }
@@ -97,7 +97,7 @@ pub struct Orders {
     tiles: Vec<u8>,
     // The order after the tiles at a position and at the next one are exchanged, by order.
     passes: Vec<u32>,
-    // The order after the tile at a position has come to another, by both and then by order; nothing
+    // The order after the tile at a position has come to another, by both and then by order. Empty
     // where there are more than `MOST_MOVED` tiles.
     moves: Vec<u32>,
 }
@@ -124,7 +124,7 @@ impl Orders {
         Ok(orders)
     }
 
-    // The same once more.
+    // A copy.
     pub(crate) fn copy(&self, alloc: Global) -> Result<Self, OutOfMemory>
         ensures { (count : ℕ) → IsOrders count self.now → IfOk result (IsOrders count) }
     {

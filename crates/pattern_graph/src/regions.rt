@@ -1,5 +1,5 @@
-//! Regions: the cells that the blank reaches past tiles of no group, while the tiles of a group stay where they
-//! are.
+//! Regions: the cells that the blank reaches past tiles of no group, while the tiles of a group
+//! stay where they are.
 
 ghost use Rattle.std.specs.Prelude.{ℕ, suc, ◌≡◌, ◌<◌, ◌≤◌, ◌+◌, ◌^◌, ◌↔◌};
 ghost use Rattle.std.specs.Prelude.{IfOk, IsTrue, Contains};
@@ -20,7 +20,7 @@ use board::{Move, Shape};
 use memory::{OutOfMemory, copy_of, push};
 use std::alloc::Global;
 
-// The region of a cell on which a tile stands.
+// The region of a cell that a tile is on.
 const NO_REGION: u32 = 4_294_967_295;
 
 /// Where a region is first met.
@@ -41,7 +41,7 @@ pub struct Regions {
     pub count: usize,
     /// The places of sets.
     pub choices: Choices,
-    /// The region of each cell of the shape, set by set; any number where a tile stands.
+    /// The region of each cell of the shape, set by set; any number where a tile is.
     pub numbers: Vec<u32>,
     /// Where each region is first met, by the region's number.
     pub homes: Vec<Home>,
@@ -81,7 +81,7 @@ impl Regions {
         self.add_row(set, placed)
     }
 
-    // Numbers the cells of a set on which tiles stand.
+    // Numbers all cells of the shape while tiles are on those of a set.
     fn add_row(&mut self, set: usize, cells: &[u8]) -> Result<(), OutOfMemory>
         requires next { IsNextSet set self.old }
         requires cells { cells.now ≡ set_at (cell_count self.old.shape) self.old.count set }
@@ -95,7 +95,7 @@ impl Regions {
         Ok(())
     }
 
-    // Numbers a cell: a free one as the cell that is its label, or anew where that is itself.
+    // Numbers a cell. A free cell has the number of its label, or a new one where it is its label.
     fn add_cell(
         &mut self,
         set: usize,
@@ -128,7 +128,7 @@ impl Regions {
         push(&mut self.numbers, region)
     }
 
-    // The same once more.
+    // A copy.
     pub(crate) fn copy(&self, alloc: Global) -> Result<Self, OutOfMemory>
         ensures { IfOk result (AreSameRegions self.now) }
     {
@@ -141,7 +141,7 @@ impl Regions {
         })
     }
 
-    // The region of the blank's cell while tiles stand on these cells.
+    // The region of the blank's cell while tiles are on these cells.
     pub(crate) fn region(&self, cells: &[u8], blank: u8) -> usize
         requires regions { IsRegions self.now.shape self.now.count self.now }
         requires apart { AreCellsApart self.now.shape self.now.count cells.now blank }
@@ -226,7 +226,7 @@ fn lower_towards(
     false
 }
 
-// Whether a tile stands on the cell.
+// Whether a tile is on the cell.
 #[tactic(auto, using(std::proofs::lemmas::List::get_or_default))]
 pub(crate) fn stands_on(cells: &[u8], cell: usize) -> bool
     requires { cell < 2 ^ 8 }

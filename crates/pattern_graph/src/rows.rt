@@ -55,7 +55,8 @@ pub fn rank_values(
     Ok(values)
 }
 
-// Puts the values of a row at the end. All its views have the blank and all tiles but the last on these cells.
+// Puts the values of a row at the end. All its views have the blank and all tiles but the last on
+// these cells.
 fn add_row(
     regions: &Regions,
     larger: &[u32],
@@ -117,7 +118,7 @@ pub fn rank_least(alloc: Global, group: &Group, least: &[u16]) -> Result<Vec<u16
     Ok(values)
 }
 
-/// Marks the cells of a list, none of which is there twice.
+/// Marks the cells of a list of different cells.
 pub fn mark_cells(cells: &[u8]) -> [bool; 25]
     requires { IsListing 25 cells.now }
     ensures size { length result ≡ 25 }
@@ -130,7 +131,8 @@ pub fn mark_cells(cells: &[u8]) -> [bool; 25]
     marks
 }
 
-// For each set of one cell less, and each cell that it doesn't have, the place of the set with that cell.
+// For each set of one cell less, and each cell that it doesn't have, the place of the set with that
+// cell.
 fn find_larger(alloc: Global, regions: &Regions) -> Result<Vec<u32>, OutOfMemory>
     requires { IsRegions regions.now.shape regions.now.count regions.now }
     ensures { IfOk result (λ larger. AreLarger regions.now larger.items) }

@@ -6,7 +6,7 @@ ghost use Rattle.pattern_graph.specs.Sets.{CanChoose, choose, set_place, set_at,
 
 use crate::orders::count_below;
 
-/// In how many ways up to 10 of up to 25 cells can be chosen.
+/// The number of ways to choose up to 10 of up to 25 cells.
 #[derive(Clone, Copy)]
 pub struct Choices {
     table: [[u32; 11]; 26],

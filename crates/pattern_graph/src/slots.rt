@@ -21,8 +21,9 @@ use memory::{OutOfMemory, push};
 use pattern_index::{Group, digit_base, sparse_place};
 use std::alloc::Global;
 
-/// The positions of all tiles in each order of `count` tiles, 0 to 9: on how many smaller cells others
-/// stand. There are `count` for each order, one order after another. The error is `OutOfMemory`.
+/// The positions of all tiles in each order of `count` tiles, 0 to 9. A tile's position is the
+/// number of tiles on smaller cells. There are `count` for each order, one order after another. The
+/// error is `OutOfMemory`.
 pub fn find_positions(alloc: Global, count: usize) -> Result<Vec<u8>, OutOfMemory>
     requires { count ≤ 9 }
     ensures { IfOk result (λ all. ArePositions count all.items) }
@@ -48,7 +49,7 @@ fn add_positions(count: usize, order: usize, all: &mut Vec<u8>) -> Result<(), Ou
     Ok(())
 }
 
-/// Writes what each view has at its slot, where what nodes have is given. `positions` are those of
+/// Writes at the slot of each view what its node has in `nodes`. `positions` are those of
 /// `find_positions`.
 pub fn write_slots<T: Copy>(regions: &Regions, positions: &[u8], nodes: &[T], slots: &mut [T])
     requires positions { ArePositions regions.now.count positions.now }
@@ -62,7 +63,8 @@ pub fn write_slots<T: Copy>(regions: &Regions, positions: &[u8], nodes: &[T], sl
     }
 }
 
-// The same for the views with tiles on the cells of a set, where it is done for those of smaller sets.
+// The same for the views with tiles on the cells of a set, where it is done for the sets before
+// it.
 fn write_set<T: Copy>(regions: &Regions, positions: &[u8], set: usize, nodes: &[T], slots: &mut [T])
     requires positions { ArePositions regions.now.count positions.now }
     requires nodes { AreNodesWith set regions.now nodes.now }
@@ -86,7 +88,7 @@ fn write_set<T: Copy>(regions: &Regions, positions: &[u8], set: usize, nodes: &[
     }
 }
 
-/// Writes on which cell each tile stands, by its position among the cells.
+/// Writes the cell of each tile, by its position among the cells.
 pub fn place_tiles(cells: &[u8], positions: &[u8], placed: &mut [u8])
     requires { AreIndices (length cells.now) positions.now placed.old }
     ensures { placed.new ≡ map (slice_index cells.now) positions.now }
@@ -126,8 +128,8 @@ fn write_blanks<T: Copy>(
     }
 }
 
-/// Writes what each placement of a group's tiles has at its sparse place, where `least` has it by set
-/// and order. `positions` are those of `find_positions`.
+/// Writes at the sparse place of each placement of a group's tiles what it has in `least`, which is
+/// by set and order. `positions` are those of `find_positions`.
 pub fn write_places<T: Copy>(group: &Group, positions: &[u8], least: &[T], places: &mut [T])
     requires positions { ArePositions (length group.now.tiles) positions.now }
     requires least { IsOnePerPlacement group.now least.now }

@@ -17,7 +17,7 @@ use Rattle.pattern_index.specs.declared.faults.PartitionFault.TheVariants.{Share
 all_tiles : (grid : ShapeModel) (xs : List ℕ) (place : ℕ) → AreGroupTiles grid xs → place < length xs → ¬ IsTile grid (get_or xs place 0) → ⊥
 all_tiles grid xs place group within none = none (group.tiles place 0 within)
 
--- and none that stood before
+-- and none that an earlier place has too
 none_repeated : (grid : ShapeModel) (xs : List ℕ) (place : ℕ) → AreGroupTiles grid xs → place < length xs → Contains (take place xs) (get_or xs place 0) → ⊥
 none_repeated grid xs place group within found =
     let x = get_or xs place 0 in
@@ -37,7 +37,7 @@ before xs p q lt within =
     let front : length (take q xs) ≡ q = length-take-le q xs (omega arith) in
     (omega arith, get_or-take q xs p 0 lt, take_twice p q xs (omega arith))
 
--- the first number that is no tile and the first that stood before aren't both the first fault
+-- the first number that is no tile and the first repeated one aren't both the first fault
 tile_or_repeated : (grid : ShapeModel) (numbers : List ℕ) → IsFirstGroupFault grid numbers NotATile → IsFirstGroupFault grid numbers Repeated → ⊥
 tile_or_repeated grid numbers first second =
     let p = first.0 in

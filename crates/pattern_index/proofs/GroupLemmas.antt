@@ -95,7 +95,7 @@ many_ways r many =
     let big : factorial 12 ≡ 479001600 = refl in
     omega arith
 
--- eleven places have too many views, but for those of 11 cells
+-- eleven places have too many views, except on 11 cells
 pub few_places : (n r : ℕ) → r ≤ n → n ≢ 11 → ways n r ≤ MAX_SIZE → r ≤ 10
 few_places n r le other small =
     ⊎_elim (λ (lt : r < 11). omega arith)

@@ -12,7 +12,7 @@ use Rattle.std.proofs.Math.Nat.{mul-le-mul_right}
 use Rattle.board.specs.Keys.{Precedes}
 use Rattle.pattern_index.specs.Ranks.{ways, IsListing, rank_after, rank_of, spread, list_at}
 
--- where a cell comes to stand when x is taken out
+-- the number that a cell has when x is taken out
 abbrev pub squeeze : ℕ → ℕ → ℕ
 squeeze x y = cond (ltb x y) (y - 1) y
 
@@ -282,7 +282,7 @@ rank_order (suc n) (x ∷ xs) (y ∷ ys) bx dx by' dy same (inr both) =
     let ey : rank_of (suc n) (y ∷ ys) ≡ x * ways n (length xs) + rank_of n (map (squeeze x) ys) = rank_of-cons n y ys dy.0 ∙ (λ i. sym both.0 i * wy i + rank_of n (map (squeeze (sym both.0 i)) ys)) in
     omega arith
 
--- of two lists of one length that differ one precedes the other
+-- one of two lists of one length that differ precedes the other
 in_some_order : (xs ys : List ℕ) → length xs ≡ length ys → Precedes xs ys ⊎ ((xs ≡ ys) ⊎ Precedes ys xs)
 in_some_order [] [] same = inr (inl refl)
 in_some_order [] (y ∷ ys) same = absurd (omega arith)

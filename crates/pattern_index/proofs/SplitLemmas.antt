@@ -1,4 +1,4 @@
--- Groups of which no two share a tile.
+-- Groups, no two with a tile in common.
 use Rattle.std.proofs.Common.{◌≡◌, ℕ, ◌+◌, ◌<◌, Bool, true, false, List, length, take, get_or, refl, sym, ◌∙◌, subst, arith}
 use Rattle.std.specs.Prelude.{◌↔◌, All, Contains, IsTrue}
 use Rattle.std.proofs.lemmas.Bool.{false≢true}

@@ -54,7 +54,7 @@ zeros_are_0 (suc count) (suc place) = zeros_are_0 count place
 
 -- ---- a view of a board
 
--- places of which the blank's is the first
+-- places, the blank's first
 pub view_stored : (n x : ℕ) (cells rest : List ℕ) → length cells ≡ n → n ≤ 9 → rest ≡ replicate (9 - n) 0 → IsStoredView (record { count = n + 1; places = x ∷ (cells ++ rest) })
 view_stored n x cells rest long few zeros =
     let behind : length rest ≡ 9 - n = ap length zeros ∙ length-replicate (9 - n) 0 in

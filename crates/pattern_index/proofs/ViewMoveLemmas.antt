@@ -141,7 +141,7 @@ module _ (a : Abstraction) (v : ViewModel) (m : Move) (v' : ViewModel) (c : ℕ)
 
 -- ---- views of boards
 
--- a tile does not stand where the blank is
+-- a tile is not where the blank is
 not_blank : (b : BoardModel) → IsBoard b → (t : ℕ) → IsTile b.grid t → cell_of b t ≢ blank_of b
 not_blank b board t tile same =
     let at = has_cell b board t tile.1 in
@@ -205,7 +205,7 @@ Contains-rest x y xs (zero, within, is) ne = absurd (ne is)
 Contains-rest x y xs (suc k, within, is) ne = (k, omega (arith, within), is)
 
 module _ (rule : WeightsModel) (b : BoardModel) (board : IsBoard b) (to : ℕ) (to_below : to < cell_count b.grid) where
-  -- the tile that stands on a cell
+  -- the tile on a cell
   stands : (t : ℕ) → IsTile b.grid t → eqb (cell_of b t) to ≡ true → t ≡ get_or b.tiles to 0
   stands t tile here = sym (has_cell b board t tile.1).1 ∙ ap (λ k. get_or b.tiles k 0) (eqb-true _ _ here)
 

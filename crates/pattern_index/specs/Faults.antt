@@ -8,7 +8,7 @@ use Rattle.pattern_index.specs.declared.faults.GroupFault.TheVariants.{Empty, No
 use Rattle.pattern_index.specs.declared.faults.PartitionFault.{PartitionFault}
 use Rattle.pattern_index.specs.declared.faults.PartitionFault.TheVariants.{SharedTile, TooManyGroups}
 
--- there is a number at this place, and none before it is at fault
+-- there is a number at this place, and those before it are different tiles
 pub record IsFirstGroupPlace (grid : ShapeModel) (numbers : List ℕ) (place : ℕ) : Type 0 where
   pub within : place < length numbers
   pub before : AreGroupTiles grid (take place numbers)

@@ -14,7 +14,7 @@ pub record GroupModel : Type 0 where
   pub grid : ShapeModel
   pub tiles : List ℕ
 
--- a number above 0 that stands on the boards of the grid
+-- a number above 0 on the boards of the grid
 abbrev pub IsTile : ShapeModel → ℕ → Type 0
 IsTile grid number = (0 < number) × (number < cell_count grid)
 
@@ -39,7 +39,7 @@ pub record IsGroup (g : GroupModel) : Type 0 where
 abbrev pub rank_in : ShapeModel → ViewModel → ℕ
 rank_in grid v = rank_of (cell_count grid) (v.blank ∷ v.cells)
 
--- in how many ways the group's tiles can stand, wherever the blank is: the ways to list a cell for each tile, all different
+-- the number of ways to place the group's tiles, wherever the blank is: the ways to list a cell for each tile, all different
 abbrev pub folded_size_of : GroupModel → ℕ
 folded_size_of g = ways (cell_count g.grid) (length g.tiles)
 

@@ -33,7 +33,7 @@ RanksDiffer = (n : ℕ) (xs ys : List ℕ) → IsListing n xs → IsListing n ys
 abbrev pub RanksFill : Type 0
 RanksFill = (n r k : ℕ) → r ≤ n → k < ways n r → (xs : List ℕ) × IsListing n xs × (length xs ≡ r) × (rank_of n xs ≡ k)
 
--- of two lists of one length the earlier has the smaller rank
+-- the earlier of two lists of one length has the smaller rank
 abbrev pub RanksAreInOrder : Type 0
 RanksAreInOrder =
     (n : ℕ) (xs ys : List ℕ) → IsListing n xs → IsListing n ys → length xs ≡ length ys → (rank_of n xs < rank_of n ys) ↔ Precedes xs ys

@@ -8,7 +8,7 @@ use Rattle.pattern_index.specs.Groups.{GroupModel, IsGroup, size_of}
 use Rattle.pattern_index.specs.declared.view.View.TheInside as view
 use Rattle.pattern_index.specs.declared.group.Group.TheInside as group
 
--- so many numbers of the array are used, and those behind them are 0
+-- the first `count` of the `most` numbers of the array are used, and those behind them are 0
 pub record IsFilled (most count : ℕ) (array : List ℕ) : Type 0 where
   pub few : count ≤ most
   pub all : length array ≡ most
@@ -20,7 +20,7 @@ length_used most count array filled = let few = filled.few in let all = filled.a
 
 -- ---- views
 
--- what readers see of a view's memory: the blank's cell stands first
+-- what readers see of a view's memory, where the blank's cell is first
 abbrev pub sight_in : view.Inside → ViewModel
 sight_in inside = record { blank = slice_index inside.places 0; cells = drop 1 (take inside.count inside.places) }
 

@@ -1,4 +1,4 @@
--- Partitions: groups of which no two share a tile, and why groups make none.
+-- Partitions: disjoint groups, no two with a tile in common, and why groups make none.
 use Rattle.std.specs.Prelude.{ℕ, ◌≡◌, ◌<◌, ◌≤◌, List, length, All, AllPairs, Contains}
 use Rattle.board.specs.Shapes.{ShapeModel}
 use Rattle.pattern_index.specs.Groups.{GroupModel, IsGroup}
@@ -18,7 +18,7 @@ ShareNoTile xs ys = (tile : ℕ) → Contains xs tile → ¬ Contains ys tile
 abbrev pub AreApart : List GroupModel → Type 0
 AreApart groups = AllPairs (λ g h. ShareNoTile g.tiles h.tiles) groups
 
--- at most 24 groups of one grid, of which no two share a tile
+-- at most 24 groups of one grid, no two with a tile in common
 pub record IsPartition (split : PartitionModel) : Type 0 where
   pub groups : All (λ g. IsGroup g) split.groups
   pub of_grid : All (λ g. g.grid ≡ split.grid) split.groups

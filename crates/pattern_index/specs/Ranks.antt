@@ -1,7 +1,7 @@
 -- Lists of different cells, and their ranks.
 use Rattle.std.specs.Prelude.{◌≢◌, ℕ, zero, suc, ◌+◌, ◌-◌, ◌*◌, ◌/◌, ◌%◌, ◌<◌, List, [], ◌∷◌, map, length, All, AllPairs, count_by, nat_lt, nat_le, if◌then◌else◌}
 
--- in how many ways r cells of n, no two the same, can be listed
+-- the number of ways to list r of n cells, no two the same
 unfoldable pub ways : ℕ → ℕ → ℕ
 ways n zero = 1
 ways n (suc r) = n * ways (n - 1) r
@@ -12,7 +12,7 @@ pub record IsListing (n : ℕ) (cells : List ℕ) : Type 0 where
   pub different : AllPairs (λ x y. x ≢ y) cells
 
 -- The rank of what is left of a list, where n cells have not been taken and those of `seen` have.
--- Each cell counts without the smaller ones that stood before it, times the ways to go on.
+-- Each cell counts without the smaller ones before it, times the ways to go on.
 unfoldable pub rank_after : ℕ → List ℕ → List ℕ → ℕ
 rank_after n seen [] = 0
 rank_after n seen (x ∷ xs) = (x - count_by (λ y. nat_lt y x) seen) * ways (n - 1) (length xs) + rank_after (n - 1) (x ∷ seen) xs

@@ -1,4 +1,4 @@
--- Sparse places of views: the cells of the tiles are the digits of a number. One is made and changed with less than a rank, but not each
+-- Sparse places of views: the cells of the tiles are the digits of a number. Making and changing one takes less work than a rank. Not every
 -- number is one, since the cells of a view differ.
 use Rattle.std.specs.Prelude.{ℕ, zero, suc, ◌+◌, ◌*◌, ◌/◌, ◌%◌, ◌^◌, ◌==◌, List, [], ◌∷◌, length, max, if◌then◌else◌}
 use Rattle.board.specs.Shapes.{ShapeModel, cell_count}
@@ -10,12 +10,12 @@ unfoldable pub sparse_of : ℕ → List ℕ → ℕ
 sparse_of n [] = 0
 sparse_of n (cell ∷ cells) = cell + n * sparse_of n cells
 
--- so many digits of a number, of which each is below n, the lowest first
+-- the lowest `count` digits of a number to the base n, the lowest first
 unfoldable pub digits_in : ℕ → ℕ → ℕ → List ℕ
 digits_in n zero number = []
 digits_in n (suc count) number = (number % n) ∷ digits_in n count (number / n)
 
--- what one cell more or less of a tile counts: n to the power of the tile's place; 0 for a tile that isn't among them
+-- the place value of a tile's digit: n to the power of the tile's place, or 0 for a tile that isn't among them
 unfoldable pub stride_of : ℕ → List ℕ → ℕ → ℕ
 stride_of n [] tile = 0
 stride_of n (first ∷ tiles) tile = if first == tile then 1 else n * stride_of n tiles tile

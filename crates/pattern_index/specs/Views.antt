@@ -29,7 +29,7 @@ pub record IsView (grid : ShapeModel) (tiles : List ℕ) (v : ViewModel) : Type 
   pub in_range : All (λ cell. cell < cell_count grid) (v.blank ∷ v.cells)
   pub different : AllPairs (λ x y. x ≢ y) (v.blank ∷ v.cells)
 
--- the weight of the tile that stands on this cell, by the tiles and their cells; 0 where none of them stands there
+-- the weight of the tile on this cell, by the tiles and their cells; 0 where none of them is there
 abbrev pub weight_on : WeightsModel → List ℕ → List ℕ → ℕ → ℕ
 weight_on rule [] cells cell = 0
 weight_on rule (tile ∷ tiles) [] cell = 0
@@ -41,7 +41,7 @@ pub record Abstraction : Type 0 where
   pub rule : WeightsModel
   pub tiles : List ℕ
 
--- The blank goes to its neighbour in the direction m. A tile of the group that stands there goes to where
+-- The blank goes to its neighbour in the direction m. A tile of the group that is there goes to where
 -- the blank was, at its weight. A move of any other tile, which isn't seen, costs nothing.
 pub record ViewMoves (a : Abstraction) (v : ViewModel) (m : Move) (v' : ViewModel) (c : ℕ) : Type 0 where
   pub towards : LiesTowards a.grid m v.blank v'.blank

@@ -35,7 +35,7 @@ ViewSlots =
     × (slot_count_of (group_of (grid_of 4 4) (1 ∷ 2 ∷ 3 ∷ 4 ∷ 5 ∷ [])) ≡ 16777216)
     × (slot_count_of (group_of (grid_of 5 5) (1 ∷ 2 ∷ 3 ∷ 4 ∷ [])) ≡ 9765625)
 
--- sizes of groups, of which the fourth is within the greatest size and the last is above it
+-- sizes of groups: the fourth is within the greatest size, and the last is above it
 abbrev pub GroupSizes : Type 0
 GroupSizes =
     (size_of (group_of (grid_of 2 3) (1 ∷ 5 ∷ [])) ≡ 120)
@@ -62,6 +62,6 @@ FourViewMoves =
     × (view_successor one_and_five (sight 2 (0 ∷ 5 ∷ [])) R ≡ None)
     × (view_successor one_and_five (sight 2 (0 ∷ 5 ∷ [])) D ≡ Some (sight 5 (0 ∷ 2 ∷ []), 5))
 
--- four view moves on from that view, of which the first moves tile 5 and the last tile 1
+-- four view moves on from that view: the first moves tile 5, and the last tile 1
 abbrev pub OneViewPlan : Type 0
 OneViewPlan = ViewLeads one_and_five (sight 2 (0 ∷ 5 ∷ [])) (D ∷ L ∷ U ∷ L ∷ []) (sight 0 (1 ∷ 2 ∷ [])) 6

@@ -6,8 +6,8 @@ ghost use Rattle.pattern_index.specs.Ranks.{ways, IsListing, rank_of, spread, li
 
 use crate::group::MAX_SIZE;
 
-// The rank of a list of different cells, of so many cells. It is made from the front, and each cell
-// counts without the smaller ones that were seen.
+// The rank of a list of different cells below `cells`. It is computed from the front, and each cell
+// counts without the smaller ones before it.
 pub(crate) fn rank_cells(cells: usize, list: &[u8]) -> usize
     requires few { cells ≤ 25 }
     requires listing { IsListing cells list.now }
@@ -27,8 +27,8 @@ pub(crate) fn rank_cells(cells: usize, list: &[u8]) -> usize
     rank
 }
 
-// The rank of the cells of the blank and of some tiles, of so many cells, by a list of the cell of
-// each number: as `rank_cells`, without a list of these cells.
+// The rank of the cells of the blank and of some tiles, among `count` cells, from the cell of each
+// number. It is that of `rank_cells`, without a list of these cells.
 pub(crate) fn rank_numbers(count: usize, tiles: &[u8], cells: &[u8; 25]) -> usize
     requires few { count ≤ 25 }
     requires tiles { All (λ tile. tile < 25) tiles.now }
@@ -52,8 +52,8 @@ pub(crate) fn rank_numbers(count: usize, tiles: &[u8], cells: &[u8; 25]) -> usiz
     rank
 }
 
-// The rank of the cells of some tiles, of so many cells, by a list of the cell of each number: as
-// `rank_cells`, without a list of these cells.
+// The rank of the cells of some tiles, among `count` cells, from the cell of each number. It is
+// that of `rank_cells`, without a list of these cells.
 pub(crate) fn rank_tiles(count: usize, tiles: &[u8], cells: &[u8; 25]) -> usize
     requires few { count ≤ 25 }
     requires tiles { All (λ tile. tile < 25) tiles.now }
@@ -75,7 +75,7 @@ pub(crate) fn rank_tiles(count: usize, tiles: &[u8], cells: &[u8; 25]) -> usize
     rank
 }
 
-// The bits below each cell's. To read them takes less than to shift one into its place.
+// The bits below each cell's. Reading them takes less time than shifting one into its place.
 const BITS_BELOW: [u32; 32] = [
     0x0, 0x1, 0x3, 0x7, 0xF, 0x1F, 0x3F, 0x7F, 0xFF, 0x1FF, 0x3FF, 0x7FF, 0xFFF, 0x1FFF, 0x3FFF,
     0x7FFF, 0xFFFF, 0x1FFFF, 0x3FFFF, 0x7FFFF, 0xFFFFF, 0x1FFFFF, 0x3FFFFF, 0x7FFFFF, 0xFFFFFF,

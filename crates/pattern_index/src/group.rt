@@ -82,9 +82,12 @@ impl Eq for Group {
 }
 
 impl Group {
-    /// The group of these tiles, or the first fault: E5 where there is none, else by place E6 where
-    /// a number is no tile of the shape's boards, E7 where it stood before, else E8 where there are
-    /// more than `MAX_SIZE` views.
+    /// The group of these tiles, or the first fault:
+    ///
+    /// - E5: there is none.
+    /// - E6: the first faulty place has a number that is no tile of the shape's boards.
+    /// - E7: the first faulty place has a number that an earlier place has too.
+    /// - E8: no place is faulty, but there are more than `MAX_SIZE` views.
     pub fn new(shape: Shape, numbers: &[u8]) -> Result<Self, GroupFault>
         ensures accepted { IsOk result ↔
             (0 < length numbers.now) × AreGroupTiles shape numbers.now
@@ -142,8 +145,8 @@ impl Group {
         self.size
     }
 
-    /// In how many ways its tiles can stand, wherever the blank is: N! / (N - k)! for k tiles and N
-    /// cells.
+    /// The number of ways to place its tiles, wherever the blank is: N! / (N - k)! for k tiles and
+    /// N cells.
     pub fn folded_size(&self) -> usize
         ensures value { result ≡ folded_size_of self.now }
         ensures quotient { result ≡ factorial (cell_count self.now.grid)
@@ -174,8 +177,8 @@ impl Group {
         rank_cells(self.shape().cells(), view.cells())
     }
 
-    /// The place of the tiles' cells, the blank's left out, among all ways in which the tiles can
-    /// stand, in lexicographic order.
+    /// The place of the tiles' cells, without the blank's, among all ways to place the tiles, in
+    /// lexicographic order.
     pub fn place(&self, view: &View) -> usize
         requires { IsView self.now.grid self.now.tiles view.now }
         ensures value { result ≡ place_in self.now.grid view.now }
@@ -292,7 +295,7 @@ impl Group {
     }
 
     /// The place of the views that have a sparse place: the rank of its digits. None where two of
-    /// these are the same: no view has that.
+    /// these are the same, since no view has such a sparse place.
     pub fn place_of_sparse(&self, sparse: usize) -> Option<usize>
         ensures some { IfSome result (λ place. place < folded_size_of self.now) }
         ensures view { (v : ViewModel) → IsView self.now.grid self.now.tiles v
@@ -371,7 +374,7 @@ fn check_tiles(shape: Shape, numbers: &[u8]) -> Result<(), GroupFault>
     Ok(())
 }
 
-// In how many ways so many different cells can be listed, where a group may have as many views.
+// The number of ways to list `places` different cells, if a group may have that many views.
 fn count_ways(cells: usize, places: usize) -> Option<usize>
     requires few { cells ≤ 25 }
     requires room { places ≤ cells }
@@ -398,7 +401,7 @@ fn sort_into(numbers: &[u8], tiles: &mut [u8])
     tiles.sort_unstable();
 }
 
-// The weight of the tile that stands on a cell, or 0 where none of the tiles does.
+// The weight of the tile on a cell, or 0 where none of the tiles is there.
 fn weight_on(weights: &Weights, tiles: &[u8], cells: &[u8], cell: usize) -> u32
     requires same { length cells.now ≡ length tiles.now }
     requires tiles { All (λ tile. IsTile weights.now.grid tile) tiles.now }

@@ -1,4 +1,4 @@
-//! Partitions: groups of which no two share a tile.
+//! Partitions: disjoint groups, no two with a tile in common.
 
 ghost use Rattle.std.specs.Prelude.{◌≡◌, ◌↔◌, ◌<◌, ◌≤◌, length, All, IsOk, IsErrOf, IfOk, IsTrue};
 ghost use Rattle.pattern_index.specs.Groups.{IsGroup};
@@ -13,7 +13,7 @@ use memory::{OutOfMemory, copy_of};
 use std::alloc::Global;
 use std::marker::Model;
 
-/// At most 24 groups of one shape, of which no two share a tile. There may be none.
+/// At most 24 groups of one shape, no two with a tile in common. There may be none.
 #[derive(Debug, Drop)]
 pub struct Partition {
     shape: Shape,

@@ -49,7 +49,7 @@ pub(crate) fn sparse_tiles(count: usize, tiles: &[u8], cells: &[u8; 25]) -> usiz
     }
 }
 
-// The same, where there are so many tiles.
+// The same, where there are `all` tiles.
 fn sparse_of_all(all: usize, count: usize, tiles: &[u8], cells: &[u8; 25]) -> usize
     requires all { all ≡ length tiles.now }
     requires few { count ≤ 25 }
@@ -68,7 +68,7 @@ fn sparse_of_all(all: usize, count: usize, tiles: &[u8], cells: &[u8; 25]) -> us
 }
 
 // The numbers that have the cells of some tiles as their digits, before and after the blank and a
-// tile change places. It takes less time than to make one after the other.
+// tile change places. Making both takes less time than making one after the other.
 pub(crate) fn sparse_both(base: usize, tiles: &[u8], cells: &[u8; 25], tile: u8) -> (usize, usize)
     requires few { base ≤ 25 }
     requires short { length tiles.now ≤ 9 }
@@ -107,7 +107,7 @@ fn cell_after(cells: &[u8; 25], tile: u8, number: u8) -> u8
     }
 }
 
-// Writes the digits of a number, of which each is below a count, the lowest first.
+// Writes the digits of a number to the base `count`, the lowest first.
 pub(crate) fn write_digits(count: usize, number: usize, digits: &mut [u8])
     requires some { 0 < count }
     requires few { count ≤ 25 }
@@ -132,8 +132,8 @@ pub(crate) fn are_different(cells: &[u8]) -> bool
     true
 }
 
-// What one cell more or less of a tile counts in the number: the count to the power of the tile's
-// place among these, and 0 where it is none of them.
+// The place value of a tile's digit: the count to the power of the tile's place among these, or 0
+// where it is none of them.
 pub(crate) fn stride_of(count: usize, tiles: &[u8], tile: u8) -> usize
     requires few { count ≤ 25 }
     requires short { length tiles.now ≤ 9 }

@@ -156,7 +156,7 @@ fn pick(list: &[u8; 25], places: &[u8], picked: &mut [u8])
     }
 }
 
-// Writes one number wherever another stands.
+// Writes one number in place of another, wherever that is.
 fn replace(numbers: &mut [u8], from: u8, to: u8)
     ensures { numbers.new ≡ map (λ x. if x == from then to else x) numbers.old }
 {

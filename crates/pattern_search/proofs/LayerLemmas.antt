@@ -143,7 +143,7 @@ none_added A s none = record {
   members = λ r order lt. (λ has. inl has, ⊎_elim (λ (h : Has s r order). h) (λ (a : A r order). absurd (none r order a)));
 }
 
--- of a word with one set bit, one order is in it
+-- one order is in a word with one set bit
 pub one_order : (order other : ℕ) → IsIn (order / 64) (1 * 2 ^ (order % 64) % 2 ^ 64) other ↔ (other ≡ order)
 one_order order other = (
   λ is. ⊎_elim
@@ -274,7 +274,7 @@ passed_or_here place bits left bit left' order clear passed = ⊎_elim
 
 -- ---- a value is written at each set bit
 
--- the value stands at each bit that is passed, and all other places are kept
+-- the cost is at the place of each bit that is passed, and places without a set bit are kept
 pub record IsWriting (first bits left cost : ℕ) (values values' : List ℕ) : Type 0 where
   pub size : length values' ≡ length values
   pub rest : AreLeft bits left
@@ -364,7 +364,7 @@ one_inserted count e place bits left bit left' s m s' clear before one = record 
 pub set_wide : (regions orders : ℕ) (s : NodeSet) → IsNodeSet regions orders s → orders ≤ 64 * s.width
 set_wide regions orders s set = let width = set.width in omega arith
 
--- so each order is in one of the words
+-- so each order is in a word of its region
 pub place_within : (regions orders : ℕ) (s : NodeSet) (order : ℕ) → IsNodeSet regions orders s → order < orders → order / 64 < s.width
 place_within regions orders s order set low = let width = set.width in omega arith
 

@@ -11,13 +11,13 @@ use Rattle.pattern_search.specs.declared.layers.NodeSet.{NodeSet}
 use Rattle.pattern_search.specs.declared.layers.Layers.{Layers}
 use Rattle.pattern_search.specs.declared.finding.TheConstants.{NO_VALUE}
 
--- ---- sets of nodes: for each region the orders of its nodes in the set, as the bits of words of 64
+-- ---- sets of nodes
 
 -- the node of this region in this order is in the set
 abbrev pub Has : NodeSet → ℕ → ℕ → Type 0
 Has s region order = bit_at (slice_index s.words.items (region * s.width + order / 64)) (order % 64) ≡ 1
 
--- there are words for all orders of each region, and in the set are no others
+-- there are words for all orders of each region, and no others are in the set
 pub record IsNodeSet (regions orders : ℕ) (s : NodeSet) : Type 0 where
   pub some : 0 < orders
   pub width : s.width ≡ (orders + 63) / 64
@@ -40,13 +40,13 @@ pub record IsUnion (Added : ℕ → ℕ → Type 0) (s s' : NodeSet) : Type 0 wh
 abbrev pub AreBelow : ℕ → ℕ → ℕ → Type 0
 AreBelow orders place bits = (order : ℕ) → IsIn place bits order → order < orders
 
--- the cost stands at each place whose bit is set, from the first on, and all others are kept
+-- the cost is at each place from the first on whose bit is set, and all others are kept
 pub record IsWritten (first bits cost : ℕ) (values values' : List ℕ) : Type 0 where
   pub size : length values' ≡ length values
   pub written : (bit : ℕ) → IsIn 0 bits bit → slice_index values' (first + bit) ≡ cost
   pub kept : (k : ℕ) → ((bit : ℕ) → IsIn 0 bits bit → k ≢ first + bit) → slice_index values' k ≡ slice_index values k
 
--- the order becomes of one of those whose bits are set, by an edge
+-- an edge leads to the order from one whose bit is set
 abbrev pub IsMovedFrom : ℕ → Edge → ℕ → ℕ → ℕ → Type 0
 IsMovedFrom count e place bits order = (from : ℕ) × IsIn place bits from × (order ≡ moved_order count from e.from e.to)
 

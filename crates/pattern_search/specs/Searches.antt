@@ -107,7 +107,7 @@ pub record IsLowered (node cost : ℕ) (s s' : Search) : Type 0 where
   pub wide : length s.buckets.items ≤ length s'.buckets.items
   pub work : (at : ℕ) → 2 * sum s'.values.items + waiting_count s'.buckets.items at ≤ 2 * sum s.values.items + waiting_count s.buckets.items at
 
--- the node to which the edge leads is lowered to a cost and the edge's
+-- the node to which the edge leads is lowered to the sum of a cost and the edge's
 abbrev pub IsPassed : ℕ → ℕ → Edge → Search → Search → Type 0
 IsPassed order cost e s s' = IsLowered (target s.graph order e) (cost + cost_by s.graph order e) s s'
 
@@ -153,6 +153,6 @@ pub record AreFound (selection : GroupModel) (rule : WeightsModel) (goal : Board
   pub size : length found.values.items ≡ node_count found.regions
   pub values : (v : ViewModel) → IsView selection.grid selection.tiles v → IsValue (abstraction_of selection rule) (view_of selection.tiles goal) v (slice_index found.values.items (node_in found.regions v))
 
--- each view has its node's value, of whatever group the graph is, and for whatever goal that the search began at
+-- whatever the group of the graph is, and the goal that the search began at, each view has its node's value
 abbrev pub AreFoundFrom : Graph → ℕ → Found → Type 0
 AreFoundFrom g start found = (selection : GroupModel) (rule : WeightsModel) (goal : BoardModel) → IsSought selection rule goal g start → AreFound selection rule goal found

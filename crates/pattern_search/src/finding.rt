@@ -20,8 +20,8 @@ pub const NO_VALUE: u16 = 65_535;
 pub struct Found {
     /// The regions of the nodes.
     pub regions: Regions,
-    /// The value of each node, by its number: that of its region times how many orders there are, and
-    /// its order.
+    /// The value of each node, by its number: its region's times the number of orders, plus its
+    /// order.
     pub values: Vec<u16>,
 }
 
@@ -46,7 +46,7 @@ pub fn find_values(
     }
 }
 
-// What each of these is, where all are the same.
+// The cost that each of these is, or None where they differ.
 fn same_of(costs: &[u8]) -> Option<u8>
     requires { 0 < length costs.now }
     ensures { (cost : ℕ) → (result ≡ Some cost) ↔ (costs.now ≡ replicate (length costs.now) cost) }

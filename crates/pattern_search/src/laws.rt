@@ -5,7 +5,7 @@ ghost use Rattle.pattern_search.specs.Searches.{ValuesAreDetermined};
 
 use crate::finding::NO_VALUE;
 
-/// The value that stands for no plan is the greatest of 16 bits.
+/// `NO_VALUE` is the greatest number of 16 bits.
 pub fn no_value_is_greatest()
     ensures { NO_VALUE ≡ u16.MAX }
 {}

@@ -74,8 +74,8 @@ impl NodeSet {
     }
 }
 
-// What is found of the values of nodes, the nodes that have one, and those of this layer and of the
-// next one. A node of a layer may have a value already.
+// The values of nodes as far as they are found, the nodes that have one, and those of this layer
+// and of the next one. A node of a layer may have a value already.
 #[derive(Drop)]
 pub(crate) struct Layers {
     graph: Graph,

@@ -18,7 +18,7 @@ use memory::{OutOfMemory, filled, push};
 use pattern_graph::{Edge, Graph};
 use std::alloc::Global;
 
-// What is found of the values of nodes, and the nodes that wait in buckets of cost.
+// The values of nodes as far as they are found, and the open list: nodes in buckets of cost.
 #[derive(Drop)]
 pub(crate) struct Search {
     alloc: Global,
@@ -104,7 +104,7 @@ impl Search {
 }
 
 // The values of nodes, which are lowered from a node on until nothing waits. Buckets are taken in
-// rising order of cost, so most nodes are spread once.
+// rising order of cost, so most nodes are expanded once.
 pub(crate) fn find_by_buckets(
     alloc: Global,
     graph: Graph,

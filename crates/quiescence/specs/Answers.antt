@@ -9,6 +9,6 @@ use Rattle.quiescence.specs.declared.book.Rested.TheVariants.{Waits, Quiet}
 abbrev pub account : BookState → ℕ → Account
 account book purse = record { book = book; purse = purse }
 
--- what a worker that rests is told: the run is quiet where no credit is left, and else others go on
+-- the answer to a worker that rests: the run is quiet where no credit is left, and else others go on
 abbrev pub rested : BookState → Rested
 rested book = if book.credit == 0 then Quiet else Waits

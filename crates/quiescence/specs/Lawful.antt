@@ -5,9 +5,8 @@ use Rattle.world_model.specs.declared.steps.Stop.TheVariants.{Quiet, Limit, Memo
 use Rattle.world_model.specs.Costs.{IsNotBelow, limit_of}
 use Rattle.world_model.specs.Books.{BookState}
 
--- The limit, the number of workers, and the want of a stop for memory are such as the way of counting allows. At most the limit is
--- granted. A stop by Quiet means that no credit is left, one by Limit that all of the limit is granted. No floor is below the limit of
--- the best cost.
+-- The way of counting allows the limit, the number of workers, and the `Want` of a stop for memory. At most the limit is granted. A stop by
+-- Quiet means that no credit is left, one by Limit that all of the limit is granted. No floor is below the limit of the best cost.
 pub record IsLawfulBook (allows_limit allows_workers : ℕ → Type 0) (allows_want : Want → Type 0) (book : BookState) : Type 0 where
   pub limit : allows_limit book.limit
   pub workers : allows_workers (length book.floors)

@@ -19,7 +19,7 @@ use world_model::{BookFault, CREDIT_DRAWN, GREATEST_GRANT, HaltCause, Stop, WORK
 // No more is drawn where the credit is above this, so that no sum wraps.
 const FULL_CREDIT: u64 = 1 << 63;
 
-/// What a worker that rests is told.
+/// The answer to a worker that rests.
 #[derive(Clone, Copy, Debug, PartialEq, Eq)]
 pub enum Rested {
     /// Others go on, or packets are under way.

@@ -95,7 +95,7 @@ long_said TooLong bytes here long = refl
 
 -- ---- lines that are answered
 
--- so many lines were read and replied to, and the replies are written
+-- the lines `later` were read and replied to, and the replies are written
 pub record IsAnswering (source : Change SourceState) (reader : Change LineReaderModel) (world : Change WorldState) (sink : Change SinkState) (fine : Bool) : Type 0 where
   pub later : List (List ℕ)
   pub replies : List Reply

@@ -60,7 +60,7 @@ pub record RefusesFirst (jobs : Jobs) (source : Change SourceState) (output : Li
   pub cause : IsLineRefusedBy jobs line code
   pub text : output ≡ report_text (refused_data code (length passed + 1))
 
--- Of these lines the first ones are passed over, the next one names a board by this id, and the later ones are replied to in a run of the
+-- The first of these lines are passed over, and the next one names a board by this id. The later ones are replied to in a run of the
 -- board's job, which reaches this world.
 pub record IsPlay (jobs : Jobs) (lines : List (List ℕ)) (id : List ℕ) (replies : List Reply) (w : WorldState) : Type 0 where
   pub passed : List (List ℕ)

@@ -102,11 +102,11 @@ abbrev pub reply_to : Option Step → Option Refusal → Reply
 reply_to None refusal = no_step
 reply_to (Some step) refusal = taken step refusal
 
--- the text is written, and this is told; or the sink has failed
+-- the text is written, and this is the answer; or the sink has failed
 abbrev pub WritesLine : Change SinkState → List ℕ → Bool → Result Bool WriteFailed → Type 0
 WritesLine sink text fine (Ok told) = WritesAll sink text × (told ≡ fine)
 WritesLine sink text fine (Err failure) = FailsWriting sink text
 
--- the reply is written, and it is told whether it and those before it are fine; or the sink has failed
+-- the reply is written, and the answer is whether it and those before it are fine; or the sink has failed
 abbrev pub WritesReply : Change SinkState → Reply → Bool → Result Bool WriteFailed → Type 0
 WritesReply sink reply fine result = WritesLine sink (reply_text reply) (is_fine reply && fine) result

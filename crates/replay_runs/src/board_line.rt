@@ -27,7 +27,7 @@ pub trait Opener<R: Run> {
     // The shape of the boards, the job of each, and when memory is wanting for it.
     ghost jobs: { Self → Jobs };
 
-    /// Opens the run of a board's job. The error tells a want of memory.
+    /// Opens the run of a board's job. The error is that memory was refused.
     fn open(self, alloc: Global, start: &Board) -> Result<R, OutOfMemory>
         requires { start.now.grid ≡ (jobs self).grid }
         ensures opened { IfOk result (λ run. (via : Move)

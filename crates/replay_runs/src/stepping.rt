@@ -137,8 +137,8 @@ fn step_in(kind: LineKind, bytes: &[u8]) -> Option<Step>
     read_step(bytes)
 }
 
-// Takes the step that a line says, if it says one, and answers the line. Returns whether each line up
-// to it said one.
+// Takes the step that a line says, if it says one, and answers the line. Returns whether each line
+// up to it said one.
 fn answer_step<K: Sink, R: Run>(
     alloc: Global,
     sink: &mut K,
@@ -160,7 +160,7 @@ fn answer_step<K: Sink, R: Run>(
     }
 }
 
-// Writes a word on a line of its own, passes it on, and answers what is told of it.
+// Writes a word on a line of its own, and passes it on. Answers `said`.
 fn tell<K: Sink>(sink: &mut K, word: &str, said: bool) -> Result<bool, WriteFailed>
     ensures writes { WritesLine (change K.state sink.old sink.new) (line_of word.now) said result }
     ensures last { OnOk result (K.is_flushed sink.new) }

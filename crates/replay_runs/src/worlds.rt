@@ -47,7 +47,7 @@ impl<'a, P: Spread> Opener<World<'a, P>> for Opening<'a, P> {
             setup.expansion_limit(),
         )
         .unwrap();
-        // What the law of runs needs of the job is told by these calls.
+        // By these calls the job is known to be as the law of runs needs it.
         let _ = job.goal();
         let _ = job.bound();
         match World::new(alloc, job, setup.worker_count(), spread) {

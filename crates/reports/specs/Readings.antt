@@ -60,7 +60,7 @@ SaysNumber d key n = Says d key (number (unsigned n))
 abbrev pub HasStatus : Data → List ℕ → Type 0
 HasStatus d word = SaysText d (codes "status") word
 
--- two outcomes have one report: all is the same but how memory came to be wanting
+-- two outcomes have one report: they are the same, except how memory ran out
 pub data SaySame : Ending → Ending → Type 0 where
   optimal : (cost : ℕ) (plan plan' : Vec Move Global) → plan.items ≡ plan'.items → SaySame (Optimal cost plan) (Optimal cost plan')
   unsolvable : (why : Why) → SaySame (Unsolvable why) (Unsolvable why)

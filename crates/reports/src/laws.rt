@@ -10,7 +10,7 @@ pub fn reports_are_lines()
     ensures { ReportsAreLines }
 {}
 
-/// Whoever reads the line of a report as JSON reads the value that it was made of.
+/// The line of a report, read as JSON, is the value that it was made of.
 #[tactic(auto, using(crate::proofs::ReadLemmas::report_read))]
 pub fn reports_are_read()
     ensures { ReportsAreRead }
@@ -22,7 +22,8 @@ pub fn reports_say_one_thing()
     ensures { ReportsSayOneThing }
 {}
 
-/// An outcome's report is that of no other outcome, but for how memory came to be wanting.
+/// Two outcomes have equal reports only where they are the same, except how memory ran out. Such
+/// outcomes have equal reports.
 pub fn outcomes_are_told()
     ensures told { OutcomesAreTold }
     ensures alike { OutcomesAreToldAlike }

@@ -4,7 +4,7 @@
 //!   `serde_json`, member by member.
 //! - `specs/Reports.antt` defines the text, `specs/Readings.antt` what it says to a JSON reader;
 //!   the laws join the two.
-//! - `NoReport` is out of memory for a report, which only these functions make.
+//! - `NoReport` says that there was no memory for a report. Only these functions make it.
 #![tactic(auto)]
 
 pub mod laws;

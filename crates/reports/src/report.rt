@@ -60,8 +60,8 @@ pub fn accepted_report(alloc: Global, cost: u32) -> Result<String, NoReport>
     json_line(alloc, &value)
 }
 
-/// The report of a certificate of a bound that is accepted: one JSON object and a line feed. No plan
-/// costs less.
+/// The report of a certificate of a bound that is accepted: one JSON object and a line feed. No
+/// plan costs less.
 pub fn accepted_bound_report(alloc: Global, bound: u32) -> Result<String, NoReport>
     ensures { IfOk result (λ text. string_bytes text ≡ report_text (accepted_bound_data bound)) }
 {

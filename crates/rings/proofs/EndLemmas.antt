@@ -1,4 +1,4 @@
--- Lists of ends, of which one has changed.
+-- Lists of ends where one has changed.
 use Rattle.std.proofs.Common.{◌≡◌, ◌≢◌, ℕ, ◌<◌, List, [], map, set, get_or, length, ap, ◌∙◌}
 use Rattle.std.proofs.Math.Seq.{map-set_same}
 use Rattle.std.proofs.lemmas.List.{map-set, set-get_or, get_or-set_same, get_or-set_other, length-map}

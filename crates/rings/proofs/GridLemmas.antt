@@ -89,7 +89,7 @@ module _ (n i : ℕ) (outs ins ins' : List (List Ring)) (row : List Ring) (grid 
 pub grid_paired : (n : ℕ) (outs ins : List (List Ring)) → length outs ≡ n → length ins ≡ n → IsGrid n n outs ins → ArePaired n outs ins
 grid_paired n outs ins a b grid = record { outs_len = a; ins_len = b; rows_out = grid.rows_out; rows_in = grid.rows_in; pairs = grid.pairs }
 
--- ---- A row of ends that grows by one, and rows of which one grows.
+-- ---- A row of ends that grows by one, and rows where one grows.
 
 -- Each row before the j-th has one element more than in base, as the list of these elements has them; row j, x so far, becomes q.
 module _ {X Y R : Type 0} (f : X → List R) (g : Y → R) (xs : List X) (base : List (List R)) (ys : List Y) (j : ℕ) (x q : X) (y : Y)
@@ -121,7 +121,7 @@ nil_at_end [] h (suc m) = refl
 nil_at_end (y ∷ ys) h zero = h 0
 nil_at_end (y ∷ ys) h (suc m) = nil_at_end ys (λ k. h (suc k)) m
 
--- one more of which nothing was sent
+-- one more with an empty list
 pub nil_pushed : {X Y : Type 0} (f : X → List Y) (xs : List X) (x : X) → f x ≡ [] → ((m : ℕ) → get_or (map f xs) m [] ≡ []) → (m : ℕ) → get_or (map f (xs ++ x ∷ [])) m [] ≡ []
 nil_pushed {X} {Y} f xs x none h m = rw (map-append f xs (x ∷ []), none) (nil_at_end (map f xs) h m)
 
@@ -150,7 +150,7 @@ each_pushed P f [] x old new (suc i) y at = absurd (cc at)
 each_pushed P f (z ∷ xs) x old new zero y at = old 0 y at
 each_pushed P f (z ∷ xs) x old new (suc i) y at = each_pushed (λ (k : ℕ). P (suc k)) f xs x (λ k v h. old (suc k) v h) new i y at
 
--- the same of rows, of which there is one more
+-- the same of rows, with one more at the end
 pub rows_more : {X R : Type 0} (P : ℕ → ℕ → R → Type 0) (f : X → List R) (rows : List X) (row : X) → ((i j : ℕ) (r : R) → slice_get (get_or (map f rows) i []) j ≡ Some r → P i j r) → ((j : ℕ) (r : R) → slice_get (f row) j ≡ Some r → P (length rows) j r) → (i j : ℕ) (r : R) → slice_get (get_or (map f (rows ++ row ∷ [])) i []) j ≡ Some r → P i j r
 rows_more P f [] row old new zero j r at = new j r at
 rows_more P f [] row old new (suc i) j r at = absurd (cc at)

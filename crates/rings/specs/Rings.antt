@@ -21,13 +21,13 @@ room_of ring = ring.2.0
 abbrev pub IsRoomBetween : ℕ → ℕ → ℕ → Type 0
 IsRoomBetween from to room = (from ≡ to → room ≡ 1) × (from ≢ to → room ≡ LANE_LIMIT)
 
--- the end at which packets go in: of which ring it is, and the packets that were sent by it, the first first
+-- the end at which packets go in: its ring, and the packets that were sent by it, the first one first
 pub record SenderModel : Type 0 where
   pub ring : Ring
   pub sent : Lane
 
--- the end at which packets come out: of which ring it is, the packets that were received by it, the first first, and those after them
--- that it has seen in the ring and not taken
+-- the end at which packets come out: its ring, the packets that were received by it, the first one first, and those after them that it has
+-- seen in the ring and not taken
 pub record ReceiverModel : Type 0 where
   pub ring : Ring
   pub received : Lane

@@ -1,5 +1,5 @@
-//! The rings by which threads send one another packets: their two ends as lanes, all rings of a run,
-//! and what is known of a ring once both of its ends are in one thread.
+//! The rings by which threads send one another packets: their two ends as lanes, all rings of a
+//! run, and what is known of a ring once both of its ends are in one thread.
 //!
 //! - `Sender` and `Receiver` are the ends of an `rtrb` ring, a `LaneOut` and a `LaneIn`. Contracts
 //!   see which ring it is and what passed.

@@ -21,7 +21,8 @@ pub struct Rings<C: Counting> {
     pub ins: Vec<Vec<Receiver<C>>>,
 }
 
-/// One worker's ends of the rings of a run: `outs[j]` of that to worker j, `ins[j]` of that from it.
+/// One worker's ends of the rings of a run: `outs[j]` of that to worker j, `ins[j]` of that from
+/// it.
 #[derive(Drop)]
 pub struct Ends<C: Counting> {
     pub outs: Vec<Sender<C>>,
@@ -65,7 +66,7 @@ pub fn take_row<T: Drop>(alloc: Global, rows: &mut Vec<Vec<T>>, at: usize) -> Ve
     std::mem::replace(&mut rows[at], Vec::new(alloc))
 }
 
-// No receivers for each of so many workers.
+// An empty list of receivers for each of n workers.
 fn no_receivers<C: Counting>(alloc: Global, n: usize) -> Result<Vec<Vec<Receiver<C>>>, OutOfMemory>
     ensures len { IfOk result (λ ins. vec_len ins ≡ n) }
     ensures rings { IfOk result (λ ins. (j : ℕ)

@@ -1,4 +1,4 @@
--- Search keys: that a board and its key tell one another, how large a key is, and which digits a move exchanges.
+-- Search keys: that a board and its key determine each other, how large a key is, and which digits a move exchanges.
 use Rattle.std.proofs.Common.{Some, ◌≡◌, ◌≢◌, ℕ, zero, suc, ◌+◌, ◌*◌, ◌/◌, ◌%◌, ◌^◌, ◌<◌, ◌≤◌, Bool, true, false, cond, eqb, List, [], ◌∷◌, length, map, take, drop, set, get_or, refl, sym, ap, ◌∙◌, subst, ⊎_elim, arith}
 use Rattle.std.specs.Prelude.{All, AllPairs, nat_le, slice_index}
 use Rattle.std.specs.List.{range_with_len}
@@ -318,7 +318,7 @@ module _ (b : BoardModel) (to : ℕ) (board : IsBoard b) (to_below : to < cell_c
       let key : search_key (blank_exchange b to) ≡ sparse_of (key_base b.grid) exchanged = ap (sparse_of (key_base b.grid)) cells_after in
       omega (arith, first, second, held_up, blank, a, c, key)
 
-  -- the two digits stand in the key
+  -- the two digits are in the key
   pub key_parts : to * key_base b.grid ^ get_or b.tiles to 0 + blank_of b ≤ search_key b
   key_parts =
       let some : 0 < cell_count b.grid = omega (arith, tile_some, tile_low) in
@@ -524,7 +524,7 @@ left_all n key = sym (ap (λ (p : ℕ). key / p) (pow-zero n) ∙ div-one key)
 
 -- ---- the loop that writes the tiles
 
--- two numbers stand on two cells
+-- two numbers are on two cells
 pub cells_apart : (b : BoardModel) (m n : ℕ) → IsBoard b → m < cell_count b.grid → n < cell_count b.grid → m ≢ n → cell_of b m ≢ cell_of b n
 cells_apart b m n board m_in n_in apart = λ same.
     apart (sym (has_cell b board m m_in).1 ∙ ap (λ (c : ℕ). get_or b.tiles c 0) same ∙ (has_cell b board n n_in).1)

@@ -37,13 +37,13 @@ part_size count few =
     let one : 1 * 16 ^ count ≡ 16 ^ count = omega arith in
     mod-eq_of_lt (omega (arith, most, one)) ∙ one
 
--- and some that follow one another
+-- digits that follow one another, as they are read
 pub short_part : (key first count : ℕ) → count < 16 → key / 2 ^ (4 * first) % (1 * 2 ^ (4 * count) % 18446744073709551616) ≡ key / 16 ^ first % 16 ^ count
 short_part key first count few =
     (λ i. key / four_bits first i % (1 * four_bits count i % 18446744073709551616))
     ∙ ap (λ (n : ℕ). key / 16 ^ first % n) (part_size count few)
 
--- and one that is put there
+-- a digit that is put at a place
 pub short_put : (digit place : ℕ) → digit * 16 ^ place < 2 ^ 64 → digit * 2 ^ (4 * place) % 18446744073709551616 ≡ digit * 16 ^ place
 short_put digit place fits = ap (λ (n : ℕ). digit * n % 18446744073709551616) (four_bits place) ∙ mod-eq_of_lt fits
 
@@ -325,7 +325,7 @@ module _ (k : ℕ) where
       (λ (above : x % 2 ^ suc k ≢ 0). next_marked n x y z c e minus not_x last above (marked n last (x / 2 ^ suc k) (y / 2 ^ suc k) (z / 2 ^ suc k) c e (omega arith) (sym (digit_next x last) ∙ there) (minus_rest n x y z c e minus not_x above) (not_rest n x y z c e minus not_x)))
       (cases_eq (x % 2 ^ suc k) 0)
 
-  -- so many zeros stand below the mark
+  -- the number of zeros below the mark
   pub zeros_below : (width x t last : ℕ) (is : IsMarked x t last) → k + suc k * last < width → count_trailing_zeros width t ≡ k + suc k * is.place
   zeros_below width x t last is fits =
       let power : 2 ^ (k + suc k * is.place) ≡ 2 ^ k * 2 ^ (suc k * is.place) = pow-add 2 k (suc k * is.place) in

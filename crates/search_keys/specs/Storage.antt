@@ -6,7 +6,7 @@ use Rattle.pattern_index.specs.Sparse.{digits_in}
 use Rattle.search_keys.specs.SearchKeys.{key_base, cells_by_number, search_key}
 use Rattle.search_keys.specs.declared.keyed.KeyedBoard.TheInside.{Inside}
 
--- Number and cell exchanged: the number c stands on cell t where t stands on cell c of the board.
+-- Number and cell exchanged: number c is on cell t where number t is on cell c of the board.
 abbrev pub turned : BoardModel → BoardModel
 turned b = record { grid = b.grid; tiles = cells_by_number b }
 

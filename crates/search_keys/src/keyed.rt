@@ -19,7 +19,7 @@ use board::{Board, Shape};
 use pattern_index::cells_of;
 use std::marker::Model;
 
-// The search key of Korf's goal of 2 by 2: each number stands on the cell of its own number.
+// The search key of Korf's goal of 2 by 2, where each number is on the cell of that number.
 const SMALLEST_GOAL: u128 = 0x3210;
 
 /// A board as its search key, which has the cell of each number as a digit, the blank's lowest.
@@ -137,7 +137,7 @@ impl KeyedBoard {
         long_digit(self.key, 0) as usize
     }
 
-    /// The cell on which a number stands.
+    /// The cell that a number is on.
     pub fn cell(&self, number: u8) -> usize
         requires { number < cell_count self.now.grid }
         ensures value { result ≡ cell_of self.now number }
@@ -179,7 +179,7 @@ impl KeyedBoard {
         short_digits(self.key as u64, first, count)
     }
 
-    /// The number that stands on a cell, 0 for the blank.
+    /// The number on a cell, 0 for the blank.
     pub fn number_on(&self, cell: usize) -> u8
         requires { cell < cell_count self.now.grid }
         ensures value { result ≡ slice_index self.now.tiles cell }

@@ -22,7 +22,7 @@ both closed waiting = record { closed = closed; waiting = waiting }
 abbrev pub AreKnown : SearchListsModel → Type 0
 AreKnown lists = (f place cost : ℕ) → Contains (entries_at lists.waiting f) (place, cost) → place < length lists.closed.keys
 
--- nothing has changed but that there may be more places
+-- nothing has changed, except that there may be more places
 pub record HasMoreRoom (old new : SearchListsModel) : Type 0 where
   pub keys : new.closed.keys ≡ old.closed.keys
   pub known : new.closed.known ≡ old.closed.known

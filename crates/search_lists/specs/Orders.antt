@@ -10,7 +10,7 @@ use Rattle.search_lists.specs.Lists.{SearchListsModel}
 use Rattle.search_lists.specs.declared.lists.Met.{Met}
 use Rattle.search_lists.specs.declared.lists.Next.{Next}
 
--- What a search is led by: the sum of each board, by its key, and the key of the goal, which is not expanded.
+-- What guides a search: the sum of each board, by its key, and the key of the goal, which is not expanded.
 pub record Guide : Type 0 where
   pub sum : ℕ → ℕ
   pub goal : ℕ
@@ -35,7 +35,7 @@ NoneBelow guide closed n = (key : ℕ) (known : Known) → IsOpenKey guide close
 abbrev pub IsFloorOfLists : Guide → ClosedModel → Option ℕ → Type 0
 IsFloorOfLists guide closed floor = IsLeastWith (λ f. (key : ℕ) × (known : Known) × IsOpenKey guide closed key known × (known.cost + guide.sum key ≡ f)) floor
 
--- the board stands at this place, is not expanded and known at this cost by this last move, and is what waits next
+-- the board is at this place, is not expanded, is known at this cost by this last move, and is what waits next
 pub record IsFirst (lists : SearchListsModel) (next : Next) : Type 0 where
   pub place : slice_get lists.closed.keys next.place ≡ Some next.key
   pub known : (known : Known) × (map.get lists.closed.known next.key ≡ Some known) × (known.expanded ≡ false) × (known.cost ≡ next.cost) × (known.via ≡ next.via)

@@ -5,8 +5,8 @@
 //! - `IsInOrder`: each open board waits at its f, and every entry was put there so.
 //! - `relax` puts news into the open list; `next` gives an open board of least f below a limit;
 //!   outdated entries go out at their turn.
-//! - Of equal f the greatest g comes first: an f is sorted when it first becomes the least and
-//!   exceeds each before. No clause says so.
+//! - Among entries of equal f the greatest g comes first: an f is sorted when it first becomes the
+//!   least and exceeds each before. No clause says so.
 //! - `reserve_boards` asks for 64 boards at once, and only if that is refused for those needed.
 //! - `has_met_goal` is a hint; no clause speaks of it.
 //! - Start with `specs/Orders.antt`, then `src/lists.rt`.

@@ -208,8 +208,8 @@ impl SearchLists {
         Some(next.f)
     }
 
-    /// The least f of all entries, also of those out of date: no open board has a lower cost plus sum.
-    /// None where nothing waits.
+    /// The least f of all entries, also of those out of date: no open board has a lower cost plus
+    /// sum. None where nothing waits.
     pub fn least(&self) -> Option<u32>
         ensures least { IsLeastF self.now.waiting result }
         ensures bound { IfSome result (λ f. (guide : Guide) → IsInOrder guide self.now

@@ -58,7 +58,7 @@ limits setup b bound best one (answers, inl (same, (inl (inr (run, left)), kept)
 limits setup b bound best one (answers, inl (same, (inr run, kept))) = limits_alone setup b bound best (bounds_alone setup b bound best run)
 limits setup b bound best one (answers, inr (other, is)) = absurd (cc)
 
--- all of the limit is spent but for some of it
+-- where all of the limit is spent, it is at most what is spent and more
 all_spent : (limit spent more : ℕ) → spent ≡ limit → limit ≤ spent + more
 all_spent limit spent more e = omega (arith, e)
 

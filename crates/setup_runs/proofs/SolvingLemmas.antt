@@ -64,7 +64,7 @@ module _ {X : Type 0} (gives : WorldState → X → Type 0) (setup : SetupModel)
   abbrev pub Finds : {S : Type 0} → (S → ℕ → BoardModel → ℕ) → S → X → Type 0
   Finds owner_of owners answer = IsFoundByWorkers gives owner_of (problem_of setup start) owners setup.workers answer
 
-  -- what so many workers do that own each board by this
+  -- the job of n workers, where boards are owned by this
   abbrev job_owned : ℕ → (BoardModel → ℕ) → Job
   job_owned n owner = record { task = task_in (problem_of setup start); limit = setup.limit; count = n; owner = owner }
 
@@ -111,7 +111,7 @@ abbrev value_or : {X : Type 0} → X → Result X OutOfMemory → X
 value_or other (Ok answer) = answer
 value_or other (Err refused) = other
 
--- a want of memory, where there might be an answer
+-- refused memory, where there might be an answer
 abbrev error_of : {X : Type 0} → OutOfMemory → Result X OutOfMemory
 error_of refused = Err refused
 
@@ -227,7 +227,7 @@ parity_certified setup b apart = ((λ together. apart together), by_class)
     by_class o (answers, inl (together, run)) = absurd (apart together)
     by_class o (answers, inr (other, is)) = is
 
--- with its rows an outcome is an ending too; a bound without rows stands alone, since it answers its task
+-- with its rows an outcome is an ending too; a bound without rows is alone, since it answers its task
 pub certified_answered : CertifiedEndsAreAnswered
 certified_answered setup b o (answers, inr (other, is)) = inl (ends_answered (task_of_setup setup b) o answers, inr (other, ap without_rows is))
 certified_answered setup b o (answers, inl (together, (solved, kept))) = by_rows o answers solved kept

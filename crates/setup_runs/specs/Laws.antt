@@ -27,7 +27,7 @@ use Rattle.batch_runs.specs.Setups.{SetupModel, task_of_setup}
 use Rattle.batch_runs.specs.declared.stats.Solved.{Solved}
 use Rattle.setup_runs.specs.Solving.{MayAnswer, MayCertify, HasStats}
 
--- a board of the other class is refused for no want of memory
+-- a board of the other class is never refused for memory
 abbrev pub ParityWantsNoMemory : Type 0
 ParityWantsNoMemory = (setup : SetupModel) (b : BoardModel) → ¬ SameClass b setup.goal → ¬ MayAnswer setup b None
 
@@ -35,7 +35,7 @@ ParityWantsNoMemory = (setup : SetupModel) (b : BoardModel) → ¬ SameClass b s
 abbrev pub ParityIsAnswered : Type 0
 ParityIsAnswered = (setup : SetupModel) (b : BoardModel) (ending : Ending) → ¬ SameClass b setup.goal → MayAnswer setup b (Some ending) → ending ≡ Unsolvable Parity
 
--- no bound is answered for which a run was cut, a thread was wanting, or a want of memory was only stated
+-- no bound is answered because a run was cut, a thread could not be started, or a list of steps said that memory was refused
 abbrev pub BoundsAreNeverCut : Type 0
 BoundsAreNeverCut =
     (setup : SetupModel) (b : BoardModel) (bound : ℕ) (best : Option (ℕ × Vec Move Global)) (cause : Cause)
@@ -55,7 +55,7 @@ LimitsAreTheSetups =
     → (owner : BoardModel → ℕ) × (via : Move) × (made : List (Step × Option Refusal)) × (w : WorldState)
     × IsRun (opening (job_by owner setup b) via) made w × (expansion_count w ≡ setup.limit)
 
--- of any number of workers, the world that gives it has expanded no more than that, and all of it but for one grant for each worker
+-- of any number of workers, the world that gives it has expanded no more than that, and all of it except at most one grant for each worker
 abbrev pub LimitsAreNearlySpent : Type 0
 LimitsAreNearlySpent =
     (setup : SetupModel) (b : BoardModel) (bound : ℕ) (best : Option (ℕ × Vec Move Global))
@@ -63,20 +63,20 @@ LimitsAreNearlySpent =
     → (w : WorldState) × EndsIn w (Bounded bound best Limit)
     × (expansion_count w ≤ setup.limit) × (setup.limit ≤ expansion_count w + GREATEST_GRANT * setup.workers)
 
--- the same holds where rows are asked for: a board of the other class is refused for no want of memory, and answered by its parity
+-- the same holds where rows are asked for: a board of the other class is never refused for memory, and is answered by its parity
 abbrev pub ParityIsCertified : Type 0
 ParityIsCertified =
     (setup : SetupModel) (b : BoardModel)
     → ¬ SameClass b setup.goal
     → (¬ MayCertify setup b None) × ((given : Outcome) → MayCertify setup b (Some given) → given ≡ outcome.Unsolvable Parity)
 
--- a bound that stands alone, as memory was refused
+-- a bound alone, without rows, as memory was refused
 abbrev pub IsAloneBound : Outcome → Type 0
 IsAloneBound (outcome.Optimal cost plan rows) = ⊥
 IsAloneBound (outcome.Unsolvable why) = ⊥
 IsAloneBound (outcome.Bounded bound best cause rows) = (rows ≡ None) × StandsAlone best cause
 
--- what may be certified may be answered, but for its rows, by a batch too, if it is no such bound
+-- what may be certified may be answered, without its rows, by a batch too, if it is no such bound
 abbrev pub CertifiedEndsAreAnswered : Type 0
 CertifiedEndsAreAnswered = (setup : SetupModel) (b : BoardModel) (given : Outcome) → MayCertify setup b (Some given) → MayAnswer setup b (Some (without_rows given)) ⊎ IsAloneBound given
 

@@ -56,7 +56,8 @@ IsFoundByOne gives end setup start answer = (limit : ℕ) × IsFoundWithin gives
 abbrev pub IsFound : {X : Type 0} → (WorldState → X → Type 0) → (X → Ending) → SetupModel → BoardModel → X → Type 0
 IsFound gives end setup start answer = IsFoundByWorkers gives owner_by (problem_of setup start) setup.spread setup.workers answer ⊎ IsFoundByOne gives end setup start answer
 
--- What a search by the setup's workers may answer for a board: its parity just where the board isn't in the goal's class, and else what a run finds. Memory may be refused before the first step.
+-- What a search by the setup's workers may answer for a board: its parity just where the board isn't in the goal's class, and else what a
+-- run finds. Memory may be refused before the first step.
 pub record IsSearched {X : Type 0} (gives : WorldState → X → Type 0) (answers : Task → X → Type 0) (end : X → Ending) (parity : X) (setup : SetupModel) (start : BoardModel) (found : Result X OutOfMemory) : Type 0 where
   pub at_parity : (found ≡ Ok parity) ↔ (¬ SameClass start setup.goal)
   pub run : SameClass start setup.goal → IfOk found (IsFound gives end setup start)
@@ -71,7 +72,8 @@ IsOfRun setup start ending = IsFound EndsIn (λ it. it) setup start ending × En
 abbrev pub IsOfProvedRun : SetupModel → BoardModel → Outcome → Type 0
 IsOfProvedRun setup start given = IsFound IsGiven without_rows setup start given × HasWholeRun given
 
--- A board is answered by what answers its task. A board that isn't in the goal's class is answered by its parity; any other one by a run, which may want memory before the first step: when it does, no definition can tell.
+-- A board is answered by what answers its task. A board that isn't in the goal's class is answered by its parity; any other one by a run,
+-- which may be refused memory before the first step. No definition says when it is.
 abbrev pub AnswersBoard : {X : Type 0} → (Task → X → Type 0) → (X → Type 0) → X → SetupModel → BoardModel → Option X → Type 0
 AnswersBoard answers is_of_run parity setup start None = SameClass start setup.goal
 AnswersBoard answers is_of_run parity setup start (Some answer) =
@@ -96,7 +98,8 @@ certifying_rules_of setup = record { grid = setup.goal.grid; task = task_of_setu
 
 -- ---- figures
 
--- The stats name the figures of a search, each cut to 64 bits, and the sum of the setup's tables for the start. When a search began and ended is said by no definition.
+-- The stats name the figures of a search, each cut to 64 bits, and the sum of the setup's tables for the start. No definition says when a
+-- search began and ended.
 pub record AreStatsOf (setup : SetupModel) (start : BoardModel) (figures : Figures) (stats : Stats) : Type 0 where
   pub expanded : stats.expanded ≡ min figures.expanded (2 ^ 64 - 1)
   pub known : stats.known ≡ min figures.known (2 ^ 64 - 1)

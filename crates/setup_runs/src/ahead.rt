@@ -46,9 +46,9 @@ pub(crate) struct Ended {
     pub(crate) solved: Solved,
 }
 
-/// A board and those that the first whole lines among these bytes name, where they are worth solving
-/// side by side: where there are several workers and several boards. Of small boards more are needed,
-/// since each takes less time than a thread.
+/// A board and those that the first whole lines among these bytes name, where they are worth
+/// solving side by side: where there are several workers and several boards. More boards are needed
+/// if they are small, since each takes less time than a thread.
 pub(crate) fn boards_ahead(
     alloc: Global,
     question: &Question<'_>,
@@ -73,8 +73,8 @@ pub(crate) fn boards_ahead(
     Some(boards)
 }
 
-/// The endings of the first of these boards, up to one that has none, the first one last. Each board
-/// is solved by one worker; as many are under way at once as the setup has workers.
+/// The endings of the first of these boards, up to one that has none, the first one last. Each
+/// board is solved by one worker; as many are under way at once as the setup has workers.
 pub(crate) fn end_ahead<R: Threads + Wait + Sync, W: Watch + Sync>(
     rt: &R,
     alloc: Global,
@@ -104,8 +104,8 @@ pub(crate) fn end_ahead<R: Threads + Wait + Sync, W: Watch + Sync>(
     take_endings(alloc, setup, boards.len(), lanes)
 }
 
-// What threads share that solve boards side by side: the boards, and the place of the first that none
-// has taken.
+// What threads share that solve boards side by side: the boards, and the place of the first that
+// none has taken.
 #[derive(Drop)]
 struct Shared<'a, R, W> {
     rt: &'a R,
@@ -250,8 +250,8 @@ fn take_next<R: Wait>(rt: &R, next: &Mutex<usize>) -> usize {
     place
 }
 
-// The ending of a board by one worker, if memory sufficed: for a board that isn't in the goal's class
-// it always does. The worker owns all boards, whatever they are spread by.
+// The ending of a board by one worker, if memory sufficed: for a board that isn't in the goal's
+// class it always does. The worker owns all boards, whatever they are spread by.
 fn end_alone<S: Spread, W: Watch>(
     alloc: Global,
     question: &Question<'_>,
@@ -285,8 +285,8 @@ fn lacked_memory(ending: &Ending) -> bool
     }
 }
 
-// The endings of the first of these boards, up to one that has none, the first one last. In each lane
-// they are in rising order of their places.
+// The endings of the first of these boards, up to one that has none, the first one last. In each
+// lane they are in rising order of their places.
 fn take_endings(
     alloc: Global,
     setup: &Setup,

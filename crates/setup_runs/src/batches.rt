@@ -18,8 +18,8 @@ use std::alloc::Global;
 use std::sync::Wait;
 use std::thread::Threads;
 
-// A setup, the closures by which its workers answer boards, and who watches them: threads start under
-// the bounds of the function that makes the closures, which no trait's method has.
+// A setup, the closures by which its workers answer boards, and who watches them: threads start
+// under the bounds of the function that makes the closures, which no trait's method has.
 #[derive(Drop)]
 struct Guided<'a, F, P, W> {
     setup: &'a Setup,
@@ -74,13 +74,14 @@ impl<
 
 /// Writes a report for each line of the source that isn't passed over, in order: that of its first
 /// fault, or of an ending that answers its board. A board that isn't in the goal's class is
-/// answered without a search; any other one by A* with the setup's tables, within the setup's limit:
-/// by one worker in the calling thread, or by more in threads of their own, which all end before the
-/// next line is read. The gate is passed after each of their steps.
+/// answered without a search. Any other one is answered by A* with the setup's tables, within the
+/// setup's limit. One worker searches in the calling thread, more in threads of their own, which
+/// all end before the next line is read. The gate is passed after each of their steps.
 ///
-/// Where a setup has several workers and the source holds several lines, their boards are solved side
-/// by side, each by one worker. Their lines are taken, and their reports written, one after the other
-/// as ever. A line that comes alone is solved by one worker if its board is easy, and else by all.
+/// Where a setup has several workers and the source holds several lines, their boards are solved
+/// side by side, each by one worker. Their lines are taken, and their reports written, one after
+/// the other. A line that comes alone is solved by one worker if its board is easy, and else by
+/// all.
 ///
 /// The sink is flushed after each report, so that whoever waits for one has it; nothing is flushed
 /// for a line that is passed over.
@@ -108,8 +109,8 @@ pub fn run_batch<R: Threads + Wait + Sync, S: Source, K: Sink, G: Gate + Sync>(
     run_watched(rt, alloc, source, sink, setup, &Unwatched { gate })
 }
 
-/// Runs a batch as `run_batch` does, under a watch. It is handed the figures of each line whose board
-/// is answered, in the order of the lines, before its report is written.
+/// Runs a batch as `run_batch` does, under a watch. It is handed the figures of each line whose
+/// board is answered, in the order of the lines, before its report is written.
 pub fn run_watched<R: Threads + Wait + Sync, S: Source, K: Sink, W: Watch + Sync>(
     rt: &R,
     alloc: Global,

@@ -62,12 +62,13 @@ impl<'a, F: Fn(&Board) -> Result<Outcome, OutOfMemory>> Prover for Proving<'a, F
 
 /// Answers the first line of the source that isn't passed over, and takes nothing behind it: where
 /// a plan of least cost is found, or a bound with its rows, its certificate is written, else the
-/// line's report. The board is solved as those of a batch are, but with the rows that prove the plan
-/// or the bound; a certificate names the groups of the setup's tables, with whose sums they do.
+/// line's report. The board is solved as those of a batch are, but with the rows that prove the
+/// plan or the bound. A certificate names the groups of the setup's tables: the rows prove it with
+/// their sums.
 ///
 /// Answers the status: 0 for a certificate of a plan, for a board without a plan, and where no line
 /// is to be answered; 1 for a bound, certified or not, and for a line that is refused. Nothing is
-/// written where reading fails or memory is wanting. What is written is flushed; where the flush
+/// written where reading fails or memory is refused. What is written is flushed; where the flush
 /// fails, so has the write.
 ///
 /// What is written tells the truth: so says the clause `truth`, in words of what a reader sees.

@@ -7,7 +7,7 @@ ghost use Rattle.setup_runs.specs.Laws.{ParityIsCertified, CertifiedEndsAreAnswe
 ghost use Rattle.setup_runs.specs.Laws.{StatsAreOfWorlds, StatsAreOfTheSetups};
 ghost use Rattle.setup_runs.specs.Laws.{StatsAreWithinTheLimit};
 
-/// A board of the other class is refused for no want of memory.
+/// A board of the other class is never refused for memory.
 pub fn parity_wants_no_memory()
     ensures { ParityWantsNoMemory }
 {}
@@ -17,8 +17,8 @@ pub fn parity_is_answered()
     ensures { ParityIsAnswered }
 {}
 
-/// A bound is answered for no run that was cut, and for the limit after just as many expansions by
-/// one worker, and after nearly as many by more.
+/// No bound is answered for a run that was cut. One for the limit is answered after just as many
+/// expansions by one worker, and after nearly as many by more.
 #[tactic(auto, using(crate::proofs::LawLemmas::never_cut, crate::proofs::LawLemmas::limits, crate::proofs::LawLemmas::limits_nearly))]
 pub fn bounds_are_due()
     ensures kept { BoundsAreNeverCut }
@@ -26,7 +26,7 @@ pub fn bounds_are_due()
     ensures nearly { LimitsAreNearlySpent }
 {}
 
-/// What may be certified of a board may be answered too, but for a bound for which memory was
+/// What may be certified of a board may be answered too, except a bound for which memory was
 /// refused.
 #[tactic(auto, using(crate::proofs::SolvingLemmas::parity_certified))]
 pub fn certified_ends_are_answered()
@@ -41,8 +41,8 @@ pub fn stats_are_of_worlds()
     ensures setups { StatsAreOfTheSetups }
 {}
 
-/// The stats of a line count no more expansions than the setup allows. What one worker expanded before
-/// all shared a board is not among them.
+/// The stats of a line count no more expansions than the setup allows. What one worker expanded
+/// before all shared a board is not among them.
 #[tactic(auto, using(crate::proofs::LawLemmas::stats_within_limits))]
 pub fn stats_are_within_the_limit()
     ensures { StatsAreWithinTheLimit }

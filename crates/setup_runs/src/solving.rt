@@ -54,8 +54,8 @@ pub(crate) struct Question<'a> {
     pub(crate) ghost sides: { start.now.grid ≡ setup.now.goal.grid },
 }
 
-/// The ending of a board by the setup's workers, with the figures of their search. The error: out of
-/// memory before the first step.
+/// The ending of a board by the setup's workers, with the figures of their search. The error: out
+/// of memory before the first step.
 pub(crate) fn solve_board<R: Threads + Wait + Sync, W: Watch + Sync>(
     rt: &R,
     alloc: Global,
@@ -133,8 +133,8 @@ pub(crate) fn answer_board<A: TellsBounds, R: Threads + Wait + Sync, G: Gate + S
     }
 }
 
-// The answer of a board by one of several workers, where the board is easy or the setup's limit is so
-// low. None where the board is to be shared.
+// The answer of a board by one of several workers, where the board is easy or the setup's limit is
+// so low. None where the board is to be shared.
 fn answer_easy<A: TellsBounds, S: Spread, G: Gate>(
     alloc: Global,
     question: &Question<'_>,
@@ -160,8 +160,7 @@ fn answer_easy<A: TellsBounds, S: Spread, G: Gate>(
     Some(answer)
 }
 
-// The answer of a board by all workers, each of which owns the boards that the setup says by this
-// spread.
+// The answer of a board by all workers. Each owns the boards that the setup says, by this spread.
 fn answer_spread<A: Reading, R: Threads + Wait + Sync, S: Spread + Sync, G: Gate + Sync>(
     rt: &R,
     alloc: Global,

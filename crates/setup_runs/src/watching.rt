@@ -1,4 +1,4 @@
-//! Who watches a run.
+//! What watches a run.
 
 ghost use Rattle.setup_runs.specs.Solving.{AreFiguresOfLine};
 
@@ -6,8 +6,8 @@ use batch_runs::Stats;
 use hda_run::{Gate, Kind, World};
 use owners::Spread;
 
-/// A gate that is passed after each step of a search, a clock, and whoever takes the figures of lines.
-/// No contract says what becomes of these.
+/// A gate that is passed after each step of a search, a clock, and whoever takes the figures of
+/// lines. No contract says what becomes of these.
 pub trait Watch: Gate {
     /// The microseconds since some moment.
     fn microseconds(&self) -> u64;

@@ -165,7 +165,7 @@ deliver_said verb word i n is said (Grant k) = (λ e. absurd (cc), λ h. absurd 
 deliver_said verb word i n is said (Rest k) = (λ e. absurd (cc), λ h. absurd h)
 deliver_said verb word i n is said (Halt k cause) = (λ e. absurd (cc), λ h. absurd (other_verb verb (codes "deliver") (codes "halt") is (λ e. omega arith) h.0))
 
--- nothing is said without a second number, but for a halt
+-- without a second number no step but a halt is said
 pub none_said : (verb word : List ℕ) (i : ℕ) → verb ≢ codes "halt" → ((n : ℕ) → ¬ IsNumberWord word n) → (step : Step) → (◌≡◌ {A = Option Step} None (Some step)) ↔ IsPaired verb i word step
 none_said verb word i other never (Expand k) = (λ e. absurd (cc), λ h. absurd h)
 none_said verb word i other never (Settle k) = (λ e. absurd (cc), λ h. absurd h)

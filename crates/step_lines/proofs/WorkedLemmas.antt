@@ -49,7 +49,7 @@ one_count words verb k two h = subst (λ (ws : List (List ℕ)). length ws ≡ w
 two_count : (words : List (List ℕ)) (verb : List ℕ) (k j : ℕ) → words_for verb ≡ 3 → SayTwo words verb k j → length words ≡ words_for (id_of words)
 two_count words verb k j three h = subst (λ (ws : List (List ℕ)). length ws ≡ words_for (id_of ws)) (sym h.2) (sym three)
 
--- a step has so many words
+-- a step has as many words as there are for its verb
 pub step_count : (words : List (List ℕ)) (step : Step) → SaysStep words step → length words ≡ words_for (id_of words)
 step_count words (Expand k) h = one_count words (codes "expand") k refl h
 step_count words (Settle k) h = one_count words (codes "settle") k refl h

@@ -26,7 +26,7 @@ step_code PurseFull = codes "S16"
 abbrev pub no_step_code : List ℕ
 no_step_code = codes "B4"
 
--- what a step is answered by that was refused so, or wasn't refused
+-- the answer to a step that was refused so, or wasn't refused
 abbrev pub answer_word : Option Refusal → List ℕ
 answer_word None = codes "ok"
 answer_word (Some refusal) = step_code refusal

@@ -30,7 +30,7 @@ SayTwo words verb i j = (first second : List ℕ) × (words ≡ verb ∷ first �
 abbrev pub SayHalt : List (List ℕ) → ℕ → HaltCause → Type 0
 SayHalt words i cause = (number word : List ℕ) × (words ≡ codes "halt" ∷ number ∷ word ∷ []) × IsNumberWord number i × SaysCause word cause
 
--- the words say the step
+-- these words say the step
 abbrev pub SaysStep : List (List ℕ) → Step → Type 0
 SaysStep words (Expand i) = SayOne words (codes "expand") i
 SaysStep words (Settle i) = SayOne words (codes "settle") i
@@ -42,7 +42,7 @@ SaysStep words (Grant i) = SayOne words (codes "grant") i
 SaysStep words (Rest i) = SayOne words (codes "rest") i
 SaysStep words (Halt i cause) = SayHalt words i cause
 
--- a verb, and the number of the worker of which alone the step is
+-- the step has this verb, the number of this worker, and no word more
 abbrev pub IsAlone : List ℕ → ℕ → Step → Type 0
 IsAlone verb i (Expand k) = (verb ≡ codes "expand") × (k ≡ i)
 IsAlone verb i (Settle k) = (verb ≡ codes "settle") × (k ≡ i)

@@ -6,10 +6,10 @@ ghost use Rattle.step_lines.specs.Answers as answers;
 
 use world_model::Refusal;
 
-/// What a line is answered by that says no step.
+/// The answer to a line that says no step.
 pub const NO_STEP: &str = "B4";
 
-/// What a step is answered by: `ok`, or the code of its refusal.
+/// The answer to a step: `ok`, or the code of its refusal.
 pub fn answer_word(answer: Result<(), Refusal>) -> &'static str
     ensures { result.now ≡ answers.answer_word (refusal_in answer) }
 {

@@ -1,6 +1,6 @@
 //! Lines that say a step of a run, and the texts of the answers.
 //!
-//! `replay_runs` reads the lines of a replay by this crate.
+//! `replay_runs` reads the lines of a replay with this crate.
 #![tactic(auto)]
 
 mod answers;

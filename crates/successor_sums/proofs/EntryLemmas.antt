@@ -15,7 +15,7 @@ use Rattle.successor_sums.specs.ByMoves.{ByMovesModel, IsBehind, OfFour, before,
 use Rattle.successor_sums.specs.declared.by_moves.ByMoves.TheInside.{Inside}
 use Rattle.successor_sums.specs.Unpacked.{but, is_left_out}
 
--- ---- the entries of what stands for some of the four moves: what holds of each entry
+-- ---- the entries of items for some of the four moves: what holds of each entry
 
 all_before : {A : Type 0} (P : Move × A → Type 0) (m : Move) (o : Option A) (rest : List (Move × A)) → IfSome o (λ x. P (m, x)) → AllByRecursion P rest → AllByRecursion P (before m o rest)
 all_before P m None rest is all = all
@@ -36,13 +36,13 @@ itself : {A : Type 0} (o : Option A) → IfSome o (λ x. o ≡ Some x)
 itself None = tt
 itself (Some x) = refl
 
--- each is what stands for its move
+-- each entry has the item of its move
 pub stands_at : {A : Type 0} (four : ByMovesModel A) (i : ℕ) (d : Move × A) → i < length (entries_of four) → of_move four (get_or (entries_of four) i d).0 ≡ Some (get_or (entries_of four) i d).1
 stands_at {A = A} four i d low =
     All-from_recursion (λ (e : Move × A). of_move four e.0 ≡ Some e.1) (entries_of four)
     (all_four (λ (e : Move × A). of_move four e.0 ≡ Some e.1) four (itself four.up) (itself four.left) (itself four.right) (itself four.down)) i d low
 
--- ---- where the entry of a move stands
+-- ---- where the entry of a move is
 
 abbrev IsAmong : {A : Type 0} → Move × A → List (Move × A) → Type 0
 IsAmong {A} e es = (i : ℕ) × (i < length es) × ((d : Move × A) → get_or es i d ≡ e)
@@ -139,7 +139,7 @@ behind_those {B = B} a b i e low all same =
     (recursion_from_All (λ (x : Move × B). rank x.0 < rank m) (entries_of b)
     (λ j d within. (let lt : j < i = omega (arith, within, all) in subst (λ (k : Move). rank k < rank m) (sym (same j d lt)) (lower (entries_of a) j i e (sorted a) lt low))))
 
--- what holds of each entry holds of what stands for each move
+-- what holds of each entry's item holds of the item of each move
 pub of_entries : {A : Type 0} (P : A → Type 0) (four : ByMovesModel A) → ((j : ℕ) (d : Move × A) → j < length (entries_of four) → P (get_or (entries_of four) j d).1) → OfFour P four
 of_entries {A = A} P four all = (one U four.up refl, one L four.left refl, one R four.right refl, one D four.down refl)
   where

@@ -38,7 +38,7 @@ digit_fits tile behind low few =
     let most : tile * 32 ^ behind ≤ 31 * 32 ^ 24 = mul-le tile (32 ^ behind) 31 (32 ^ 24) (omega arith) power in
     long_put tile behind (omega arith)
 
--- a digit of a packed number is the number that stands there
+-- a digit of a packed number is the number at that place
 pub digit_there : (xs : List ℕ) (i k : ℕ) → i + suc k ≡ length xs → AllBelowBase 32 xs → packed_number xs / 32 ^ k % 32 ≡ get_or xs i 0
 digit_there [] i k e low = absurd (omega arith)
 digit_there (x ∷ xs) zero k e low =
@@ -109,7 +109,7 @@ blank_is inside unpacked = unpacked.cells.are 0 (cells_above (unpacked_board ins
 pub blank_below : (inside : Inside) → IsUnpacked inside → slice_index inside.cells 0 < cell_count (unpacked_board inside).grid
 blank_below inside unpacked = subst (λ (k : ℕ). k < cell_count (unpacked_board inside).grid) (sym (blank_is inside unpacked)) (blank_stands (unpacked_board inside) unpacked.board).0
 
--- what holds where the blank goes from its cell to another, on which a tile stands
+-- what holds where the blank goes from its cell to another that a tile is on
 pub record IsLedTo (inside : Inside) (b : BoardModel) (count from to tile : ℕ) : Type 0 where
   pub tile_is : slice_index b.tiles to ≡ tile
   pub tile_some : 0 < tile
@@ -172,10 +172,10 @@ module _ (inside : Inside) (m : Move) (count from to : ℕ) (unpacked : IsUnpack
 pub led_to : (inside : Inside) (b : BoardModel) (m : Move) (count from to tile : ℕ) → IsUnpacked inside → unpacked_board inside ≡ b → count ≡ cell_count inside.shape → from ≡ blank_of b → LiesTowards inside.shape m from to → tile ≡ inside.key / 32 ^ (count - 1 - to) % 32 → IsLedTo inside b count from to tile
 led_to inside b m count from to tile unpacked is counted at lies read = subst (λ (p : BoardModel). IsLedTo inside p count from to tile) is (led_here inside m count from to unpacked counted (at ∙ sym (ap blank_of is)) lies tile read)
 
--- ---- what is told of a successor
+-- ---- what is given of a successor
 
 module _ (rule : WeightsModel) (parts : List Part) (b : BoardModel) (m : Move) (inside : Inside) (count from : ℕ) (s : Successor) (led : IsLedTo inside b count from s.cell s.tile) where
-  -- where a move leads there, this is what is told of it
+  -- where a move leads there, this is what is given of it
   pub some_told : neighbour b.grid m (blank_of b) ≡ Some s.cell → s.key ≡ key_of (blank_exchange b s.cell) → s.cost ≡ weight_of rule s.tile → s.sum ≡ sum_of parts (blank_exchange b s.cell) → Some s ≡ option_map (told_of parts b) (successor rule b m)
   some_told found key cost sum =
       let tile : s.tile ≡ slice_index b.tiles (blank_of (blank_exchange b s.cell)) = sym led.tile_is ∙ sym (ap (slice_index b.tiles) led.blank) in

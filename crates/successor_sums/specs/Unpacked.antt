@@ -1,4 +1,4 @@
--- Boards with the cell of each number beside the numbers, and what is told of their successors.
+-- Boards with the cell of each number beside the numbers, and what is given of their successors.
 use Rattle.std.specs.Prelude.{Bool, false, if◌then◌else◌, None, ℕ, ◌≡◌, ◌≤◌, ◌<◌, List, map, slice_index, Option, Some, option_map}
 use Rattle.board.specs.declared.moves.Move.{Move}
 use Rattle.board.specs.Equality.{move_eq}
@@ -14,12 +14,12 @@ use Rattle.lower_bound.specs.Slides.{AreCellsOf}
 use Rattle.successor_sums.specs.declared.unpacked.Successor.{Successor}
 use Rattle.successor_sums.specs.declared.unpacked.UnpackedBoard.TheInside.{Inside}
 
--- what is told of a successor of a board: its key, the tile that is moved and the cell that it leaves, which is the
--- blank's then, the cost of the move, and its sum
+-- what is given of a successor of a board: its key, the tile that is moved, the cell that it leaves, the cost of the move, and its sum
+-- (that cell is the blank's then)
 abbrev pub told_of : List Part → BoardModel → BoardModel × ℕ → Successor
 told_of parts b moved = record { key = key_of moved.0; tile = slice_index b.tiles (blank_of moved.0); cell = blank_of moved.0; cost = moved.1; sum = sum_of parts moved.0 }
 
--- what is told of the successors of a board, by the four moves in the order in which they are tried
+-- what is given of the successors of a board, by the four moves in the order in which they are tried
 abbrev pub successors_of : WeightsModel → List Part → BoardModel → List (Option Successor)
 successors_of rule parts b = map (λ m. option_map (told_of parts b) (successor rule b m)) all_moves
 

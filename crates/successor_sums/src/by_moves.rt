@@ -1,4 +1,4 @@
-//! What stands for some of the four moves.
+//! Items for some of the four moves.
 
 ghost use Rattle.std.specs.Prelude.{ℕ, ◌≡◌, ◌≤◌, ◌<◌, if◌then◌else◌, Some, None, length};
 ghost use Rattle.std.specs.Prelude.{slice_index_or};
@@ -11,9 +11,8 @@ use std::marker::Model;
 /// The most moves from a board.
 pub const MOVES: usize = 4;
 
-/// What stands for some of the four moves: entries in the order of the moves, one after the other
-/// with no gap, so that a loop over them is as long as there are entries, and none has to be asked
-/// whether it is there.
+/// Items for some of the four moves: entries in the order of the moves, with no gap. A loop over
+/// them has as many rounds as there are entries, and doesn't test whether an entry is there.
 #[derive(Debug, Drop)]
 pub struct ByMoves<T> {
     moves: [Move; MOVES],
@@ -34,7 +33,7 @@ impl<T> Model for ByMoves<T> {
 }
 
 impl<T: Copy> ByMoves<T> {
-    /// Nothing stands for any move. `filler` is what lies in memory then.
+    /// No move has an item. `filler` is what lies in memory then.
     pub fn nothing(filler: T) -> Self
         ensures { result ≡ nothing }
     {
@@ -45,8 +44,8 @@ impl<T: Copy> ByMoves<T> {
         }
     }
 
-    /// Puts an item for a move that comes behind those that have one. Where `is_there` is false
-    /// nothing is put; to do either takes no guess of the processor.
+    /// Puts an item for a move that comes behind those that have one. Where `is_there` is false,
+    /// nothing is put. There is no branch to mispredict.
     pub fn put_if(&mut self, direction: Move, item: T, is_there: bool)
         requires { IsBehind self.old direction }
         ensures { self.new

@@ -22,8 +22,8 @@ pub fn find_exits(shape: Shape, blank: usize, left_out: Option<Move>, exits: &mu
     put_exit(exits, shape, blank, left_out, Move::D);
 }
 
-// Puts the cell to which a move leads, unless it is left out or leads off the board. Which moves
-// do is guessed wrong often, so that nothing here depends on a guess.
+// Puts the cell to which a move leads, unless it is left out or leads off the board. Processors
+// often mispredict which moves do, so nothing here depends on a prediction.
 fn put_exit(
     exits: &mut ByMoves<usize>,
     shape: Shape,

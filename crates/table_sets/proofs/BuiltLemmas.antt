@@ -156,7 +156,7 @@ folded_potentials split rule goal tables is board same built = record {
 
 -- ---- Tables of the same groups, for the same goal and costs, give the same sums; so do folded ones, whose sums are no greater.
 
--- two lists of tables of the same groups, of which the first say no more
+-- two lists of tables of the same groups, where those of the first say no more
 sums_no_more :
     {X Y : Type 0} (of : X → GroupModel) (of' : Y → GroupModel) (say : X → ℕ) (say' : Y → ℕ) (F : GroupModel → Type 0) (P : X → Type 0) (Q : Y → Type 0)
     → ((g : GroupModel) (x : X) (y : Y) → F g → of x ≡ g → of' y ≡ g → P x → Q y → say x ≤ say' y)
@@ -258,7 +258,7 @@ module _ (determined : ValuesAreDetermined) (rule : WeightsModel) (goal b : Boar
   all_fit : (split : PartitionModel) → IsPartition split → b.grid ≡ split.grid → AllByRecursion Fits split.groups
   all_fit split is same = recursion_from_All Fits split.groups (λ k d within. record { group = (is.groups k d within).group; grid = is.of_grid k d within ∙ sym same })
 
-  -- whole tables, of which one list says no more than the other
+  -- whole tables, where one list says no more than the other
   whole_no_more : (split : PartitionModel) (one other : BoundModel) → IsPartition split → AreBuilt split rule goal one → AreBuilt split rule goal other → b.grid ≡ split.grid → sum_by entry one.lookups ≤ sum_by entry other.lookups
   whole_no_more split one other is built built' same =
       sums_no_more (λ (table : TableModel). table.selection) (λ (table : TableModel). table.selection) entry entry Fits Holds Holds whole_less split.groups one.lookups other.lookups built.each.one_each built'.each.one_each

@@ -38,7 +38,7 @@ IsTrueTable rule goal group table = (table.selection ≡ group) × HoldsValues t
 abbrev pub IsTrueFoldOf : WeightsModel → BoardModel → GroupModel → FoldedModel → Type 0
 IsTrueFoldOf rule goal group fold = (fold.selection ≡ group) × IsTrueFold rule goal fold
 
--- there is one for each group, in the order of the groups, of which this holds
+-- there is one for each group, in the order of the groups, and this holds of each with its group
 abbrev pub AreEach : {X : Type 0} → (GroupModel → X → Type 0) → List GroupModel → List X → Type 0
 AreEach Is [] [] = ⊤
 AreEach Is (g ∷ groups) (x ∷ xs) = Is g x × AreEach Is groups xs

@@ -16,8 +16,8 @@ use rayon::prelude::*;
 use std::alloc::Global;
 use std::thread::Threads;
 
-/// From so many views on, tables are built by several threads. Fewer are built in less time than
-/// would pay for the threads and for the memory of several searches at once.
+/// From this number of views on, tables are built by several threads. Fewer views take too little
+/// time to pay for the threads and for the memory of several searches at once.
 const PARALLEL_VIEWS: usize = 1_000_000;
 
 /// Where a thread leaves what it built, or that memory was refused for it. None before.
@@ -42,7 +42,7 @@ pub fn build_bound(
     ensures built { IfOk result (AreBuilt groups weights.now goal.now) }
     ensures potentials { IfOk result (ArePotentials weights.now goal.now) }
 {
-    // What holds of every partition and of every board is told by these calls.
+    // The clauses of these calls say what holds of every partition and of every board.
     let _ = groups.shape();
     let _ = goal.shape();
     let tables: Vec<Table> = build_each(rt, alloc, groups.groups(), goal, weights)?;
@@ -154,7 +154,7 @@ fn build_side_by_side<T: GroupTable + Send>(
     take_tables(alloc, places)
 }
 
-// So many places where nothing is built yet.
+// This many places where nothing is built yet.
 fn empty_places<T: Drop>(alloc: Global, count: usize) -> Result<Vec<Place<T>>, OutOfMemory>
     requires { count ≤ 24 }
     ensures { IfOk result (λ places. length places.items ≡ count) }

@@ -16,7 +16,7 @@ use std::alloc::Global;
 pub(crate) trait GroupTable: Drop {
     ghost is_true: { WeightsModel → BoardModel → GroupModel → Self → Type 0 };
 
-    // That of a group for a goal and weights, in one of these frames where one fits it.
+    // The table of a group for a goal and weights, in one of these frames where one fits it.
     fn build_for(
         alloc: Global,
         frames: &[Frame],
@@ -80,7 +80,7 @@ fn frame_of<'a>(frames: &'a [Frame], group: &Group) -> Option<&'a Frame>
     None
 }
 
-// A frame for each size of which there are several of these groups.
+// A frame for each size that several of these groups have.
 pub(crate) fn shared_frames(alloc: Global, groups: &[Group]) -> Result<Vec<Frame>, OutOfMemory> {
     let mut frames = Vec::new(alloc);
     'groups: for place in 0..groups.len() {

@@ -8,7 +8,7 @@
 //!   own. Below that they are built in turn, under the same contract.
 //! - Places are made by `memory`: rayon's `collect` would answer std's error, from which no
 //!   `OutOfMemory` follows.
-//! - Folded tables need at most one whole table for each thread at a time (trait `GroupTable`).
+//! - Folded tables (trait `GroupTable`) are made of the values of nodes, without a whole table.
 //! - Start with `specs/Built.antt`, then `src/building.rt`.
 #![tactic(auto)]
 

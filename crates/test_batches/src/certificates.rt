@@ -54,8 +54,8 @@ pub(crate) const BOUND: [u8; 41] = [
     1, 0, 2, 3, 0, 0, 0, 0, // the row
 ];
 
-// From which byte to which `ONE_MOVE_ONE` is replaced, by what, and the code that the result is refused
-// by.
+// From which byte to which `ONE_MOVE_ONE` is replaced, by what, and the code that the result is
+// refused by.
 static CHANGES: [(usize, usize, &[u8], &str); 13] = [
     (0, 1, &[0x55], "F1"),
     (44, 45, &[], "F2"),
@@ -96,8 +96,8 @@ static CHANGES: [(usize, usize, &[u8], &str); 13] = [
     ),
 ];
 
-// By which code `ONE_MOVE_ONE` is refused where one of its bytes is 255: those below this place, and
-// from that of the row above on.
+// By which code `ONE_MOVE_ONE` is refused where one of its bytes is 255: those below this place,
+// and from that of the row above on.
 static HIGH_BYTES: [(usize, &str); 8] = [
     (8, "F1"),
     (20, "F3"),

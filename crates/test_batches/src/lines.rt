@@ -35,7 +35,7 @@ static SHORT: [(&[u8], &[(LineKind, &[u8])]); 8] = [
     ),
 ];
 
-// Lines of one byte so many times and an end, and their kinds.
+// Lines of one byte, repeated, and an end, and their kinds.
 static LONG: [(u8, usize, &[u8], LineKind); 9] = [
     (b'x', 1024, b"\r\n", Within),
     (b'x', 1024, b"", Within),
@@ -90,7 +90,7 @@ fn long_lines_are_cut_off(rt: HostRuntime) {
     }
 }
 
-// Whether so many lines are read before the read that fails, and none for ever after.
+// Whether this many lines are read before the read that fails, and none ever after.
 fn reads_lines_up_to_failure(reads_before: usize, lines: usize) -> bool {
     let mut source = ByteSource::new(FailingReader {
         bytes: b"ab\n#c\n\nd",

@@ -21,7 +21,7 @@ use std::sync::Wait;
 use std::thread::Threads;
 use test_support::{FailingReader, FailingWriter, NEVER};
 
-// So large that memory for 2^27 of it is refused: a want of memory can't be made up.
+// So large that memory for 2^27 of it is refused: a refusal of memory can't be made up.
 type TooLarge = [u64; 1 << 18];
 
 // Answers by the blank's cell alone, and none ahead.
@@ -105,7 +105,8 @@ enum Run {
     Upgrade,
     // `run_replay` over a board of 2 by 2, with one worker, Korf's goal and unit costs.
     Replay,
-    // `list_boards` of walks of 12 moves over 2 by 2, which come round to the goal. It reads nothing.
+    // `list_boards` of walks of 12 moves over 2 by 2, which come round to the goal. It reads
+    // nothing.
     Boards,
 }
 
@@ -122,7 +123,7 @@ struct Case {
     reads: usize,
     output: &'static [u8],
     status: u8,
-    // What is told where the output cannot be written.
+    // What is reported where the output cannot be written.
     unwritten: &'static str,
 }
 
@@ -288,7 +289,7 @@ static CASES: [Case; 22] = [
         status: 5,
         unwritten: "",
     },
-    // A step is answered where its line is whole, and the report stands behind the end.
+    // A step is answered where its line is whole, and the report comes at the end of the input.
     Case {
         run: Run::Replay,
         input: b"r 1 0 2 3\ngrant 0\nrest 1\nexpand\nexpand 0\nannounce 0\nrest 0",
@@ -318,7 +319,7 @@ static CASES: [Case; 22] = [
 ];
 
 impl Case {
-    // What is told where the input cannot be read.
+    // What is reported where the input cannot be read.
     fn unread(&self) -> &'static str {
         if matches!(self.run, Run::Check | Run::Show | Run::Upgrade) {
             "tilesolve: F6\n"
@@ -327,7 +328,7 @@ impl Case {
         }
     }
 
-    // What is due where the read after so many others fails: of a batch the reports of the lines
+    // What is due where the read after `read` others fails: of a batch the reports of the lines
     // that are whole, of a replay the answers to those behind the first, and else nothing.
     fn due_before(&self, read: usize) -> &'static [u8] {
         let lines = lines_of(beginning(self.input, read));
@@ -369,7 +370,7 @@ impl Case {
             .saturating_add(flushes_last as usize)
     }
 
-    // What is written where the write or flush after so many others fails.
+    // What is written where the write or flush after `call` others fails.
     fn due_at(&self, call: usize) -> &'static [u8] {
         for place in 0..self.output.len() {
             let next = &self.output[..place + 1];
@@ -387,7 +388,7 @@ impl Case {
     }
 }
 
-// How many line feeds stand in a text.
+// How many line feeds a text has.
 fn lines_of(text: &[u8]) -> usize {
     let mut lines: usize = 0;
     for byte in text {
@@ -398,7 +399,7 @@ fn lines_of(text: &[u8]) -> usize {
     lines
 }
 
-// So many lines of a text, or all.
+// The first lines of a text, this many, or all.
 fn first_lines(text: &[u8], lines: usize) -> &[u8] {
     let mut left = lines;
     for (place, byte) in text.iter().enumerate() {
@@ -412,7 +413,7 @@ fn first_lines(text: &[u8], lines: usize) -> &[u8] {
     text
 }
 
-// So many bytes of a text, or all.
+// The first bytes of a text, this many, or all.
 fn beginning(text: &[u8], count: usize) -> &[u8] {
     &text[..count.min(text.len())]
 }
@@ -427,8 +428,8 @@ struct Ended {
     unread: usize,
 }
 
-// Runs a case over an input, an output and a standard error that fail at the call after so many
-// others.
+// Runs a case over an input, an output and a standard error, where each fails at the call after
+// this many others.
 fn end<R: Threads + Wait + AllocGlobal + Sync>(
     rt: &R,
     case: &Case,
@@ -575,7 +576,7 @@ fn setup_of_faces(alloc: Global) -> Option<Setup> {
     Some(Setup::new(alloc, goal, Weights::face(shape)))
 }
 
-// Whether a run fails so, and not otherwise where that cannot be told.
+// Whether a run fails so, and not otherwise where that cannot be reported.
 fn fails_so<R: Threads + Wait + AllocGlobal + Sync>(
     rt: &R,
     case: &Case,
@@ -596,8 +597,8 @@ fn fails_so<R: Threads + Wait + AllocGlobal + Sync>(
     true
 }
 
-// Whether a run ends as is due where no call fails, and leaves what stands behind the bytes that it
-// is to read.
+// Whether a run ends as is due where no call fails, and leaves what is behind the bytes that it is
+// to read.
 fn succeeds<R: Threads + Wait + AllocGlobal + Sync>(rt: &R, case: &Case) -> bool {
     let ended = end(rt, case, NEVER, NEVER, NEVER);
     ended.status == case.status
@@ -696,7 +697,7 @@ static HELD: [Held; 3] = [
     },
 ];
 
-// What is reported of lines by `workers` workers, of which each solves a board alone.
+// What is reported of lines by `workers` workers, where each solves a board alone.
 fn reports_by<R: Threads + Wait + Sync>(
     rt: &R,
     alloc: Global,

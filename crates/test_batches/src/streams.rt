@@ -72,7 +72,7 @@ fn writes_up_to_failure(alloc: Global, kind: Option<ErrorKind>, calls_before: us
     sink.into_inner().taken.as_slice() == &b"abcde"[..calls_before.min(5)]
 }
 
-// Writes some texts, of which one is empty, and flushes.
+// Writes some texts, one of them empty, and flushes.
 fn put_texts<K: Sink>(sink: &mut K) -> Result<(), WriteFailed> {
     sink.put(b"abc")?;
     sink.put(b"")?;
@@ -133,7 +133,7 @@ fn passes_on(alloc: Global) -> bool {
         && sink.into_inner().as_slice() == b"ababcde".as_slice()
 }
 
-// A text in memory, no read of which fails.
+// A text in memory, whose reads never fail.
 #[derive(Drop)]
 struct Text<'a> {
     bytes: &'a [u8],
@@ -151,7 +151,7 @@ impl Reader for Text<'_> {
     }
 }
 
-// A writer that only counts, no call of which fails.
+// A writer that only counts, whose calls never fail.
 #[derive(Drop)]
 struct Counter {
     count: usize,

@@ -12,10 +12,10 @@ use certificate_check::{Refusal, check, check_parallel};
 use std::process::Abort;
 use std::thread::Threads;
 
-// Where the kind of costs stands.
+// The place of the kind of costs.
 const KIND: usize = 10;
 
-// Where it stands in version 2.
+// Its place in version 2.
 const KIND_OF_TWO: usize = 11;
 
 // What is answered for bytes: why they are no certificate, or what the checker says of the one that
@@ -165,7 +165,7 @@ static CHANGES: [(usize, &[u8], Answer); 13] = [
         &[1, 0, 2, 3, 0, 0, 16],
         Err(ReadFault::Format(FormatFault::OutOfRange)),
     ),
-    // One row less announced than stands there.
+    // One row less announced than there is.
     (31, &[4], Err(ReadFault::Format(FormatFault::BytesAfterEnd))),
     // The plans R, R, L and R, U, D.
     (29, b"R", Ok(Err(Refusal::IllegalMove(1)))),

@@ -40,7 +40,7 @@ fn tables_of(
     requires goal { goal.now.grid ≡ partition.grid }
     requires weights { weights.now.grid ≡ partition.grid }
 {
-    // That the groups are of this shape is told by this call.
+    // By this call the groups are known to be of this shape.
     let _ = partition.shape();
     let mut tables = Vec::new(rt.alloc());
     for group in partition.groups() {
@@ -75,7 +75,7 @@ pub(crate) fn certificate_of(rt: &(impl Abort + AllocGlobal), bytes: &[u8]) -> C
 
 // Bytes, and why they are no certificate.
 static FAULTS: [(&[u8], FormatFault); 15] = [
-    // 25 groups, and 24 of which none is there.
+    // 25 groups, and 24 where none is there.
     (b"TILECRT1\x02\x02\x00\x19", FormatFault::OutOfRange),
     (b"TILECRT1\x02\x02\x00\x18", FormatFault::Truncated),
     // A group of no tiles, and one of 25.
@@ -86,7 +86,7 @@ static FAULTS: [(&[u8], FormatFault); 15] = [
     (b"TILECRT1\x02\x02\x00\x01\x02\x00", FormatFault::Truncated),
     (b"TILECRT1\x02\x02\x00\x01\x01\x00", FormatFault::OutOfRange),
     (b"TILECRT1\x02\x02\x00\x01\x01\x04", FormatFault::OutOfRange),
-    // They rise, and none stands twice.
+    // They rise, and none is there twice.
     (
         b"TILECRT1\x02\x02\x00\x01\x02\x02\x01",
         FormatFault::OutOfRange,

@@ -98,7 +98,7 @@ fn numbers(shape: Shape) -> u64 {
     numbers
 }
 
-// The board whose tiles are the digits of a number, or None where a digit stands twice.
+// The board whose tiles are the digits of a number, or None where a digit is there twice.
 fn board_of(shape: Shape, number: u64) -> Option<Board> {
     let cells = shape.cells();
     let mut tiles = [0; 25];

@@ -7,7 +7,7 @@ use std::io::{ErrorKind, Read, Write};
 /// More calls than any test makes.
 pub const NEVER: usize = 9999;
 
-/// Gives its bytes, and fails at the read after so many others.
+/// Gives its bytes, and fails at the read after `reads_before` others.
 #[derive(Drop)]
 pub struct FailingReader<'a> {
     /// What is left.
@@ -29,7 +29,7 @@ impl Read for FailingReader<'_> {
     }
 }
 
-/// Takes one byte a write, and fails at the write or flush after so many others.
+/// Takes one byte a write, and fails at the write or flush after `calls_before` others.
 #[derive(Drop)]
 pub struct FailingWriter {
     pub taken: Vec<u8>,

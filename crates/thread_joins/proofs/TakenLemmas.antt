@@ -25,7 +25,7 @@ use Rattle.thread_joins.specs.Worlds.{parts_with, AreTakenApart, shared_of_job}
 use Rattle.thread_joins.specs.declared.apart.Joined.{Joined}
 use Rattle.thread_joins.specs.Threads.{IsJoint}
 
--- ---- rows of ends, of which one has changed
+-- ---- rows of ends where one has changed
 
 -- a row of the same rings, by which the same was sent or received, in the place of another
 pub out_rings-set : (xs : List (Vec SenderModel Global)) (i : ℕ) (q x : Vec SenderModel Global) → x ≡ get_or xs i x → q.items ≡ x.items → rings_of_outs (set xs i q) ≡ rings_of_outs xs
@@ -140,7 +140,7 @@ pub next_at : {X : Type 0} (done : List X) (x : X) (rest : List X) → slice_get
 next_at [] x rest = refl
 next_at (y ∷ done) x rest = next_at done x rest
 
--- what a mapped list has at a place, it has of what stands there
+-- what a mapped list has at a place is made of what the list has there
 pub map_at : {X Y : Type 0} (f : X → Y) (xs : List X) (i : ℕ) (x : X) → slice_get xs i ≡ Some x → slice_get (map f xs) i ≡ Some (f x)
 map_at f xs i x at = slice_get-map f xs i ∙ ap (option_map f) at
 

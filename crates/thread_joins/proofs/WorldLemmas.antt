@@ -144,7 +144,7 @@ lane_from from to rows lane at =
 -- ---- the items that are left
 
 module _ (w : WorldState) (n : ℕ) (ins : List (Vec ReceiverModel Global)) (lanes : w.lanes ≡ by_sender n (left_rows ins)) (widths : AreOfWidth n ins) where
-  -- an end that stands in a row is at the end of a lane
+  -- an end in a row is at the end of a lane
   pub is_lane : (to from : ℕ) (row : Vec ReceiverModel Global) (it : ReceiverModel) → slice_get ins to ≡ Some row → slice_get row.items from ≡ Some it → IsLane w from to it.left
   is_lane to from row it at_row at =
       let lt : from < n = omega (arith, slice_get_within row.items from it at, widths to row at_row) in
@@ -273,7 +273,7 @@ module _ {S C D E K G : Type 0} (owner_of : S → ℕ → BoardModel → ℕ) (p
       let sender = sender_from n from left row at in
       ap (λ (l : List Lane). length l) sender.1 ∙ (receiver_count from left ∙ (ins_count ∙ sym count))
 
-  -- the lane at a place, by what stands there
+  -- the lane at a place, by what is there
   lane_there : (rows : List (List Lane)) (i j : ℕ) (row : List Lane) (lane : Lane) → slice_get rows i ≡ Some row → slice_get row j ≡ Some lane → lane_at rows i j ≡ lane
   lane_there rows i j row lane at_row at = ap (λ (r : List Lane). slice_index_or r j []) (get_or_from_slice_get rows i row [] at_row) ∙ get_or_from_slice_get row j lane [] at
 

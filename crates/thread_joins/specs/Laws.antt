@@ -13,7 +13,7 @@ use Rattle.world_model.specs.Quiet.{IsKept}
 use Rattle.world_model.specs.Worlds.{WorldState, IsUnderWay}
 use Rattle.thread_joins.specs.Threads.{IsJoined, GivesIfKept}
 
--- each board is owned in the joined world by whom the job says, one of its workers, of which there are as many as the job has
+-- a joined world has as many workers as the job says, and each board has the owner that the job says, one of them
 abbrev pub BoardsHaveOwners : Type 0
 BoardsHaveOwners = (job : Job) (w : WorldState) (b : BoardModel) → IsJoined job w → (w.owner b ≡ job.owner b) × (w.owner b < length w.workers) × (length w.workers ≡ job.count)
 
@@ -21,7 +21,7 @@ BoardsHaveOwners = (job : Job) (w : WorldState) (b : BoardModel) → IsJoined jo
 abbrev pub JoinedLimitsAreKept : Type 0
 JoinedLimitsAreKept = (job : Job) (w : WorldState) → IsJoined job w → expansion_count w ≤ w.book.limit
 
--- where it was halted for the limit, its book has granted all of that, and its workers have expanded it but for one grant for each
+-- where it was halted for the limit, its book has granted all of that, and its workers have expanded it except at most one grant for each
 abbrev pub LimitsAreSpent : Type 0
 LimitsAreSpent =
     (job : Job) (w : WorldState)

@@ -17,7 +17,7 @@ use Rattle.rings.specs.Rings.{ArePaired}
 use Rattle.thread_parts.specs.Parts.{SealedModel}
 
 -- The world of a job's workers, when all were joined. It is shaped and sound. Where it is quiet, all is at rest. At most the limit was
--- expanded; where it was halted for the limit, all of that is granted, and spent but for one grant for each worker. No list of steps
+-- expanded. Where it was halted for the limit, all of that is granted, and spent except at most one grant for each worker. No list of steps
 -- stopped it.
 pub record IsJoined (job : Job) (w : WorldState) : Type 0 where
   pub task : w.task ≡ job.task
@@ -36,7 +36,7 @@ abbrev pub GivesIfKept : {X : Type 0} → (WorldState → X → Type 0) → Worl
 GivesIfKept gives w None = ¬ IsKept w
 GivesIfKept gives w (Some answer) = IsKept w × gives w answer
 
--- What is found of n threads: their joined workers make a world, of which this is found.
+-- What n threads find: their joined workers make a world, and this is found of it.
 abbrev pub IsFoundByThreads : {S X : Type 0} → (WorldState → X → Type 0) → (S → ℕ → BoardModel → ℕ) → JobModel → S → ℕ → Option X → Type 0
 IsFoundByThreads gives owner_of p owners n found = (w : WorldState) × IsJoined (job_of owner_of p owners n) w × GivesIfKept gives w found
 

@@ -9,8 +9,8 @@ use message_ledger::{Allowance, Capped, Gathered, Grants, Shares, Tickets};
 use std::sync::ledger::Ledger;
 use worker_core::Worker;
 
-/// How many boards the workers have expanded, where each has its ticket: at most as many as were
-/// granted, and no fewer but for one grant for each.
+/// How many boards the workers have expanded, where each has its ticket. They are at most as many
+/// as were granted, and fewer by at most one grant for each worker.
 pub(crate) fn count_expanded<L: Ledger + Send + Sync, M: Capped + Send + Sync>(
     tickets: Tickets<M>,
     grants: Grants<Shares<L, M>>,

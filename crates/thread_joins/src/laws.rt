@@ -7,14 +7,14 @@ ghost use Rattle.thread_joins.specs.Laws.{NoListStopsThreads};
 
 use world_ends::Reading;
 
-/// Each board is owned in a joined world by whom the job says, one of as many workers as the job
+/// In a joined world each board has the owner that the job says, one of as many workers as the job
 /// has.
 #[tactic(auto, using(crate::proofs::WorldLemmas::have_owners))]
 pub fn boards_have_owners()
     ensures { BoardsHaveOwners }
 {}
 
-/// A joined world expanded no more than the limit, and where it was halted for that, nearly all.
+/// A joined world expanded no more than the limit, and nearly all of it where it was halted for it.
 #[tactic(auto, using(crate::proofs::WorldLemmas::limits_kept, crate::proofs::WorldLemmas::limits_spent))]
 pub fn limits_are_kept()
     ensures kept { JoinedLimitsAreKept }
@@ -32,8 +32,8 @@ pub fn kept_worlds_alone_give<A: Reading>()
     ensures { KeptWorldsAloneGive A.gives }
 {}
 
-/// What a joined world that is kept gives answers its job, in each reading. No list of steps stopped
-/// a joined world.
+/// What a joined world that is kept gives answers its job, in each reading. No list of steps
+/// stopped a joined world.
 pub fn joined_worlds_answer<A: Reading>()
     ensures answers { JoinedWorldsAnswer A.gives A.answers }
     ensures no_list { NoListStopsThreads }

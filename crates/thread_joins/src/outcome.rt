@@ -27,11 +27,11 @@ use worker_core::Worker;
 use world_ends::{Reading, Snapshot, read};
 use world_model::Stop;
 
-/// The outcome of a run whose threads were all joined. None exactly where the world that their parts
-/// make is not kept: a thread could not be started, or the book says what the workers do not bear
-/// out. The error is that memory was refused for taking the parts apart. The contract says it of some
-/// world of joined workers, since contracts don't see into sealed parts; `outcome_if_kept` says it of
-/// each world that these parts make.
+/// The outcome of a run whose threads were all joined. None exactly where the world that their
+/// parts make is not kept: a thread could not be started, or the book says what the workers do not
+/// bear out. The error is that memory was refused for taking the parts apart. The contract says it
+/// of some world of joined workers, since contracts don't see into sealed parts; `outcome_if_kept`
+/// says it of each world that these parts make.
 pub fn outcome_of_joined<A: Reading, S: Spread, L: Ledger + Send + Sync, M: Capped + Send + Sync>(
     alloc: Global,
     search: &Search<'_, S>,

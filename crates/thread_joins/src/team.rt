@@ -9,7 +9,7 @@ use std::sync::ledger::Ledger;
 use thread_parts::Sealed;
 
 /// What is left of a run whose threads were all joined: the parts in their order, the book, and the
-/// tickets of what was granted, each of which was taken.
+/// tickets of what was granted, which were all taken.
 #[derive(Drop)]
 pub struct Team<'a, S: Spread, L: Ledger + Send + Sync, M: Capped + Send + Sync> {
     pub parts: Vec<Sealed<'a, S, Shares<L, M>>>,

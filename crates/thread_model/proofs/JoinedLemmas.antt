@@ -299,7 +299,7 @@ joined_parts_quiet shared parts book lanes are empty none high reached = record 
 
 -- ---- the world in which a run begins is that of its opening parts
 
--- the workers of opening parts are those of which the parts are made
+-- the workers of opening parts are those from which the parts are made
 workers_back : (n : ℕ) (workers : List WorkerState) → workers ≡ workers_of (map (opening_part n) workers)
 workers_back n [] = refl
 workers_back n (first ∷ rest) = ap (λ (xs : List WorkerState). first ∷ xs) (workers_back n rest)

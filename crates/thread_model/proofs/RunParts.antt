@@ -41,7 +41,7 @@ use Rattle.thread_model.proofs.WorkerKept.{expanding_kept, settling_kept, worker
 
 -- ---- a step of a world that is of joined parts leads to one that is
 
--- of each lane what came and what still lies in it is what was sent
+-- what came by each lane and what still lies in it is what was sent
 abbrev pub AreTied : List PartState → List (List Lane) → Type 0
 AreTied parts lanes =
     (from to : ℕ) (sender receiver : PartState) (sent received left : Lane)
@@ -110,7 +110,7 @@ module _ (w : WorldState) (parts : List PartState) (of : IsOfParts w parts) (i :
       count : length (slice_set w.workers i new.worker) ≡ length after
       count = ap length workers_after ∙ length-map after (λ (x : PartState). x.worker)
 
-  -- a part that has sent the same stood there before
+  -- a part that has sent the same was there before
   module _ (same : new.sent ≡ part.sent) where
     pub sent_before : (j : ℕ) (p : PartState) → slice_get after j ≡ Some p → (q : PartState) × (slice_get parts j ≡ Some q) × (p.sent ≡ q.sent)
     sent_before j p there =

@@ -47,7 +47,7 @@ pub record Remembers (old new : WorkerState) : Type 0 where
   pub lower : (b : BoardModel) (known : Known) → KnowsAs old b known → KnowsAtMost new b known.cost
   pub unsent : (to : ℕ) (item : Item) → HasUnsent old to item → HasUnsent new to item
 
--- a board that is known so has its origin; where it is closed, it is not the goal, and its successors are seen to, but for one to which a move leads back
+-- a board that is known so has its origin; where it is closed, it is not the goal, and each successor is seen to, unless its move leads back
 pub record IsFounded (role : Role) (part : PartState) (b : BoardModel) (known : Known) : Type 0 where
   pub origin : HasOrigin role part b known.cost known.via
   pub closed : known.expanded ≡ true → (b ≢ role.task.goal) × ((m : Move) (b' : BoardModel) (c : ℕ) → Moves role.task.rule b m b' c → IsSeenTo role part b' (known.cost + c) ⊎ LeadsBack part b known m)
@@ -206,7 +206,7 @@ module _ (n : ℕ) (role : Role) (part : PartState) (is : IsRole n role) (keeps 
       by_origin (inl (inr before)) = inl (before_seen_to before b' c (subst (λ (x : Move). Moves role.task.rule b x b' c) (back m out).1 leads))
       by_origin (inr came) = inr ((back m out).0, (back m out).1, came)
 
-  -- so each successor is seen to, but for one to which a move leads back
+  -- so each successor is seen to, unless its move leads back
   successor_seen_to : (m : Move) (b' : BoardModel) (c : ℕ) → Moves role.task.rule b m b' c → IsSeenTo role (part_with_worker part done) b' (known.cost + c) ⊎ LeadsBack (part_with_worker part done) b known m
   unfolding offers
   successor_seen_to m b' c leads =

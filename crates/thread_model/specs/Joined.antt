@@ -15,7 +15,7 @@ use Rattle.thread_model.specs.Changes.{opening_part}
 abbrev pub workers_of : List PartState → List WorkerState
 workers_of parts = map (λ part. part.worker) parts
 
--- of the lanes from each worker to each, the one from this worker to that is this
+-- the lane from one worker to another, of the lanes from each worker to each, is this
 abbrev pub IsAt : List (List Lane) → ℕ → ℕ → Lane → Type 0
 IsAt lanes from to lane = (row : List Lane) × (slice_get lanes from ≡ Some row) × (slice_get row to ≡ Some lane)
 

@@ -85,8 +85,8 @@ JoinedPartsAreSound =
     → length book.floors ≡ length parts
     → IsShaped (world_with shared parts book lanes) × IsSound (world_with shared parts book lanes)
 
--- Where all purses are empty and no packet is in a lane, nothing is under way; so where the frontier is not below the limit, and the
--- best cost is that at which the goal is known, the world is quiet.
+-- Where all purses are empty and no packet is in a lane, nothing is under way. So the world is quiet where the frontier is not below the
+-- limit, and the best cost is that at which the goal is known.
 abbrev pub JoinedPartsAreQuiet : Type 0
 JoinedPartsAreQuiet =
     (shared : Shared) (parts : List PartState) (book : BookState) (lanes : List (List Lane))
@@ -109,7 +109,7 @@ NothingHeldIsForeign =
 abbrev pub OpeningsAreOfParts : Type 0
 OpeningsAreOfParts = (job : Job) (via : Move) → IsJob job → IsOfParts (opening job via) (opening_parts job via)
 
--- What a step of a world changes is one part, which takes a step of its own, and the parts stay joined.
+-- A step of a world changes one part, which takes a step of its own, and the parts stay joined.
 abbrev pub StepsAreOfParts : Type 0
 StepsAreOfParts =
     (step : Step) (it : Turn WorldState Refusal) (parts : List PartState)

@@ -78,11 +78,11 @@ pub record IsRole (n : ℕ) (role : Role) : Type 0 where
 abbrev pub AreFor : Role → ℕ → Lane → Type 0
 AreFor role to lane = (packet : Packet) → Contains lane packet → (1 ≤ length packet) × IsPacketFor role.task role.owner to packet
 
--- What one of n parts keeps by itself, whatever the others do. All that its worker knows is its own, and what it sends is for those to
--- whom it goes. The start's owner knows the start at 0, and each successor of a closed board is seen to, but for one to which a move
--- leads back. Each board that is known has its origin, and each item that goes out is made here. What is held came, and what came for
--- this worker is known, or held still. The goal is not closed. A worker with an empty purse has nothing to do. Of what comes nothing is
--- assumed: an item that is not for the worker is foreign.
+-- What one of n parts keeps by itself, whatever the others do. All that its worker knows is its own, and each item that it sends is for the
+-- worker to which it goes. The start's owner knows the start at 0. Each successor of a closed board is seen to, unless its move leads back.
+-- Each board that is known has its origin, and each item that goes out is made here. What is held came, and what came for this worker is
+-- known, or held still. The goal is not closed. A worker with an empty purse has nothing to do. Nothing is assumed of what comes: an item
+-- that is not for the worker is foreign.
 pub record Keeps (n : ℕ) (role : Role) (part : PartState) : Type 0 where
   pub shaped : IsShapedWorker n role (record part.worker { held = [] })
   pub few_held : length part.worker.held ≤ PACKET_LIMIT

@@ -231,7 +231,7 @@ packet_added lane_of ends at end end' packet there here more =
     map-set lane_of ends at end'
     ∙ ap (λ (lane : Lane). set (map lane_of ends) at lane) (more ∙ ap (λ (o : Option Lane). unwrap_or o [] ++ packet ∷ []) (sym (seen_at lane_of ends at end there here)))
 
--- what the end has not changed stands as it was
+-- what the end has not changed is as it was
 pub all_same : {X Y : Type 0} (f : X → Y) (ends : List X) (at : ℕ) (end end' : X) → end ≡ get_or ends at end → f end' ≡ f end → map f (set ends at end') ≡ map f ends
 all_same f ends at end end' here same = map-set_same f ends at end' end (same ∙ ap f here)
 

@@ -17,9 +17,9 @@ use world_model::Refusal;
 
 impl<'a, S: Spread, C: Tokens> Part<'a, S, C> {
     /// Expands a board of least cost plus sum by all moves but the one back: whoever made its cost
-    /// known, this worker or the one that sent it, knows the board before. Refusals: S1 no board may
-    /// be expanded below the limit, S2 no allowance is left, S3 a packet has no room, S8 memory was
-    /// refused.
+    /// known, this worker or the one that sent it, knows the board before. Refusals: S1 no board
+    /// may be expanded below the limit, S2 no allowance is left, S3 a packet has no room, S8 memory
+    /// was refused.
     pub fn expand(&mut self, alloc: Global) -> Result<(), Refusal>
         requires { IsSoundPart S.owner_of C.workers self.old }
         ensures step { ExpandOnwardStep (role_of_part S.owner_of C.workers self.old)

@@ -1,4 +1,4 @@
--- What so many workers answer.
+-- What n workers answer.
 use Rattle.std.proofs.Common.{ℕ, None, Some, refl, inl, inr, arith}
 use Rattle.board.specs.Boards.{BoardModel}
 use Rattle.outcomes.specs.declared.outcome.Cause.{Cause}
@@ -25,7 +25,7 @@ named Cut whole = absurd (whole.0 refl)
 pub runs_say_why : WholeRunsSayWhy
 runs_say_why bound best cause kept = named cause kept
 
--- a world that gives an outcome with its rows ends with what it says, but for these
+-- a world that gives an outcome with its rows ends with the outcome without them
 ends_in : (w : WorldState) (it : Outcome) → IsGiven w it → HasItsRows it → EndsIn w (without_rows it)
 ends_in w (outcome.Optimal cost plan rows) given has = (rows_alone w cost plan rows given.4.2).1 given
 ends_in w (outcome.Unsolvable why) given has = given

@@ -1,4 +1,4 @@
--- The laws of what so many workers answer. Each is the contract of a function that does nothing.
+-- The laws of what n workers answer. Each is the contract of a function that does nothing.
 use Rattle.std.specs.Prelude.{ℕ, ◌≡◌, ◌⊎◌, ◌≤◌, ⊤, Option, Some, IsSome, Vec, length}
 use Rattle.std.specs.declared.alloc.Global.{Global}
 use Rattle.memory.specs.declared.OutOfMemory.{OutOfMemory}
@@ -28,14 +28,14 @@ IsLimitCostOrMemory cause = (cause ≡ Limit) ⊎ (cause ≡ Cost) ⊎ ((refused
 abbrev pub WholeRunsSayWhy : Type 0
 WholeRunsSayWhy = (bound : ℕ) (best : Option (ℕ × Vec Move Global)) (cause : Cause) → EndsWholeRun (ending.Bounded bound best cause) → IsLimitCostOrMemory cause
 
--- the outcome is no bound that stands without rows, for which memory was refused
+-- the outcome is not a bound without rows, for which memory was refused
 abbrev pub HasItsRows : Outcome → Type 0
 HasItsRows (outcome.Optimal cost plan rows) = ⊤
 HasItsRows (outcome.Unsolvable why) = ⊤
 HasItsRows (outcome.Bounded bound best cause rows) = IsSome rows
 
 module _ {S : Type 0} (owner_of : S → ℕ → BoardModel → ℕ) where
-  -- what is solved, with its rows, ends so but for these
+  -- what is solved, with its rows, ends so without them
   abbrev pub SolvedRunsEnd : Type 0
   SolvedRunsEnd = (p : JobModel) (owners : S) (n : ℕ) (it : Outcome) → IsSolved owner_of p owners n it → HasItsRows it → IsFoundByWorkers EndsIn owner_of p owners n (without_rows it)
 
@@ -48,7 +48,7 @@ module _ {S X : Type 0} (gives : WorldState → X → Type 0) (owner_of : S → 
   abbrev pub LimitsAreKept : Type 0
   LimitsAreKept = (p : JobModel) (owners : S) (n : ℕ) (it : X) → IsFoundByWorkers gives owner_of p owners n it → (w : WorldState) × gives w it × (expansion_count w ≤ p.limit)
 
-  -- the world that gives what is found by threads has as many workers as were asked for, and each board is owned in it by whom the owners say
+  -- the world that gives what is found by threads has as many workers as were asked for, and each board has the owner there that the owners name
   abbrev pub ThreadsAreAsAsked : Type 0
   ThreadsAreAsAsked =
       (p : JobModel) (owners : S) (n : ℕ) (it : X)

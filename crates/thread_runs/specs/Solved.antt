@@ -1,4 +1,4 @@
--- What so many workers answer.
+-- What n workers answer.
 use Rattle.std.specs.Prelude.{ℕ, ◌≡◌, ◌≤◌, ◌⊎◌, Some}
 use Rattle.board.specs.Boards.{BoardModel}
 use Rattle.outcomes.specs.declared.outcome.Outcome.{Outcome}

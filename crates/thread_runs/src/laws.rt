@@ -1,4 +1,4 @@
-//! The laws of what so many workers answer: each is the contract of a function that does nothing.
+//! The laws of what n workers answer: each is the contract of a function that does nothing.
 
 ghost use Rattle.owners.specs.Owners.{AreWorkers};
 ghost use Rattle.thread_runs.specs.Laws.{OneIsAlone, SolvedRunsEnd, LimitsAreKept};

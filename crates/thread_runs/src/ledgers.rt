@@ -18,7 +18,8 @@ use thread_joins::outcome_of_joined;
 use thread_parts::Search;
 use world_ends::Reading;
 
-/// Two new ledgers, which no types stand for yet: that of the credit, and that of what is granted.
+/// Two new ledgers, which have no types of their own yet: that of the credit, and that of what is
+/// granted.
 #[derive(Drop)]
 pub(crate) struct Blanks {
     pub(crate) credit: Blank,
@@ -26,8 +27,8 @@ pub(crate) struct Blanks {
 }
 
 /// What is found of a search by as many threads as it has workers, in this reading. None exactly
-/// where the world of their joined workers is not kept. The error is that memory was refused for what
-/// threads begin or end with.
+/// where the world of their joined workers is not kept. The error is that memory was refused for
+/// what threads begin or end with.
 pub fn run_by_threads<A: Reading, R: Threads + Wait + Sync, S: Spread + Sync, G: Gate + Sync>(
     rt: &R,
     alloc: Global,

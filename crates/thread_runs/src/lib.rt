@@ -10,7 +10,7 @@
 //!   ledgers, `opening` rings and parts, `teams` runs and joins.
 //! - The outcome is that of the kept joined world, else of one worker's run (`IsSolved`).
 //!   `HasWholeRun`: no bound is for a cut or a missing thread.
-//! - That a run ends is no clause's.
+//! - No clause says that a run ends.
 //! - Start with `specs/Solved.antt`, then `src/solving.rt`.
 #![tactic(auto)]
 

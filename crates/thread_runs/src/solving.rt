@@ -1,4 +1,4 @@
-//! Jobs that so many workers solve.
+//! Jobs that one worker or several solve.
 
 ghost use Rattle.std.specs.Prelude.{◌≡◌, ◌↔◌, ◌≤◌, Ok, IfOk, IfSome, IfNone, IsErrOf, Some};
 ghost use Rattle.board.specs.Classes.{SameClass};
@@ -25,14 +25,20 @@ use thread_joins::laws::joined_worlds_answer;
 use thread_parts::Search;
 use world_ends::{Reading, WithRows};
 
-/// Solves a job by so many workers, each in a thread of its own; one worker alone does so in the
-/// calling thread, and so does one where memory was refused for what threads begin or end with, or
-/// where the world of the joined workers is not kept, as where a thread could not be started. No
-/// contract says that threads run: a body would prove that starts none and names its opening world
-/// as one that is not kept. The gate's tests refuse it. A start that isn't in the goal's class is
-/// answered without a search, and without memory. Faults: V2 the workers are not from 1 to
-/// `WORKER_LIMIT`, V3 memory was refused for the world of one worker. The outcome says what was
-/// refused later.
+/// Solves a job by this number of workers, each in a thread of its own. A start that isn't in the
+/// goal's class is answered without a search, and without memory.
+///
+/// One worker answers in the calling thread in three cases:
+///
+/// - one worker was asked for;
+/// - memory was refused for what threads begin or end with;
+/// - the world of the joined workers is not kept, as where a thread could not be started.
+///
+/// No contract says that threads run: a body would prove that starts none and names its opening
+/// world as one that is not kept. The gate's tests refuse it.
+///
+/// Faults: V2 the workers are not from 1 to `WORKER_LIMIT`, V3 memory was refused for the world of
+/// one worker. The outcome says what was refused later.
 pub fn solve<'a, R: Threads + Wait + Sync, S: Spread + Sync, G: Gate + Sync>(
     rt: &R,
     alloc: Global,

@@ -69,7 +69,7 @@ impl<'a, R: Wait, G: Gate, C: Tokens> Site<'a, R, G, C> {
         self.send_from(part, NEARLY_FULL)
     }
 
-    // Sends the packets that have so many items at least. Answers whether one went out.
+    // Sends the packets that have at least `fewest` items. Answers whether one went out.
     fn send_from<S: Spread>(&self, part: &mut Part<'_, S, C>, fewest: usize) -> bool
         requires { IsSoundPart S.owner_of C.workers part.old }
         ensures { KeepsPart S.owner_of C.workers part.old part.new }

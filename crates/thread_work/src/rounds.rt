@@ -11,8 +11,8 @@ use std::sync::Wait;
 use thread_parts::{Part, Sealed};
 use world_model::Refusal;
 
-// The most expansions between two looks at the rings, and at whether the goal is known. In so many
-// another worker hardly fills more than one packet, and one is taken in from each.
+// The most expansions between two looks at the rings, and at whether the goal is known. In that
+// time another worker hardly fills more than one packet, and one is taken in from each.
 const EXPANSIONS_IN_A_ROUND: u32 = 16;
 
 /// Works with a part until the book has stopped, and gives it back with the face that it had.

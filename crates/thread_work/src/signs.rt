@@ -7,24 +7,24 @@ use std::time::Duration;
 use std::{array, thread};
 use world_model::WORKER_LIMIT;
 
-// What the word of a worker says that sleeps, or is about to.
+// The word of a worker that sleeps, or is about to.
 const ASLEEP: u64 = 1;
 
-// What it says else.
+// The word of any other worker.
 const AWAKE: u64 = 0;
 
-// So many turns without work a worker only spins between them,
+// For this many turns without work a worker only spins.
 const SPINNING_TURNS: u32 = 8;
 
-// and so many after them it lends its core to another thread. Then it sleeps.
+// For this many more it lends its core to another thread. Then it sleeps.
 const YIELDING_TURNS: u32 = 8;
 
 // It sleeps no longer than this, so that no run depends on a waker.
 const SLEEP_MICROSECONDS: u64 = 100;
 
 /// Signs beside the lock of a book and beside the rings: whether the book has stopped, and which
-/// workers sleep. They prove nothing: who finds the mark looks at the book, and who is woken looks
-/// at its rings.
+/// workers sleep. They prove nothing: a worker that finds the mark looks at the book, and one that
+/// is woken looks at its rings.
 #[derive(Drop)]
 pub struct Signs {
     stopped: AtomicU64,
@@ -33,7 +33,7 @@ pub struct Signs {
 }
 
 impl Signs {
-    /// Of a run that goes on, and whose workers are awake.
+    /// The signs of a run that goes on, and whose workers are awake.
     pub fn new() -> Self {
         Signs {
             stopped: AtomicU64::new(0),
@@ -68,7 +68,7 @@ impl Signs {
 
     /// A worker waits a little after a turn without work, the longer the more there were in a row.
     /// Before it sleeps it takes one turn more with the word that says so: what was sent before is
-    /// found by that turn, and who sends later wakes it.
+    /// found by that turn, and a worker that sends later wakes it.
     pub fn wait<R: Wait>(&self, rt: &R, worker: usize, turns: u32) {
         if turns < SPINNING_TURNS {
             spin_loop();

@@ -127,7 +127,7 @@ three_taken role worker items x y z =
     ∙ one_first role (taken role worker (items x)) (items y) _
     ∙ one_first role (taken role (taken role worker (items x)) (items y)) (items z) []
 
--- an expansion by the moves but for one that is left out, if any is
+-- an expansion by the moves without the one that is left out, if any
 pub in_four_by : (role : Role) (worker : WorkerState) (b : BoardModel) (known : Known) (left_out : Option Move) → expansion_by (moves_but left_out) role worker b known ≡ all_taken role (with_closure worker b known) (but left_out (item_by role.task.rule b known.cost))
 in_four_by role worker b known None = in_four role worker b known
 in_four_by role worker b known (Some U) = three_taken role (with_closure worker b known) (item_by role.task.rule b known.cost) L R D
@@ -306,7 +306,7 @@ module _ (role : Role) (worker : WorkerState) (b : BoardModel) (known : Known) (
 
 -- ---- the board that is expanded, and what its moves offer
 
--- the board is to be expanded, and this is what its moves offer to so many workers
+-- the board is to be expanded, and this is what its moves offer to this number of workers
 pub record IsChosen (role : Role) (worker : WorkerState) (b : BoardModel) (known : Known) (successors : Successors) (left_out : Option Move) (offers : Offers) (workers : ℕ) : Type 0 where
   pub waits : ¬ HasNothingBelow role.task worker (limit_of worker.best)
   pub at : IsNext role.task worker b known

@@ -406,7 +406,7 @@ pub one_first : (role : Role) (worker : WorkerState) (item : Option Item) (rest 
 one_first role worker None rest = refl
 one_first role worker (Some item) rest = refl
 
--- four moves, each of which may offer an item
+-- four moves, where each may offer an item
 four_taken : (role : Role) (worker : WorkerState) (items : Move → Option Item) → fold (with_successor role) worker (filter_map items (U ∷ L ∷ R ∷ D ∷ [])) ≡ taken role (taken role (taken role (taken role worker (items U)) (items L)) (items R)) (items D)
 four_taken role worker items =
     one_first role worker (items U) _
@@ -484,7 +484,7 @@ ready_for me grid cost n lists unsent offers room within all boards places = rec
     keyed : (offer : Option Offer) → IfSome offer (IsWithin grid cost n) → IfSome offer (λ some. (b : BoardModel) × HasSearchKey grid some.key b)
     keyed offer is = if_some (IsWithin grid cost n) (λ some. (b : BoardModel) × HasSearchKey grid some.key b) (λ some in_it. in_it.board) offer is
 
--- ---- how the lists stand to the task
+-- ---- what the lists keep of the task
 
 module _ (task : Task) (guide : Guide) (owner : BoardModel → ℕ) (b : BoardModel) (cost n : ℕ) (grid : ShapeModel) (is : IsGuideOf task guide) (board : IsTaskBoard task b) (low : cost ≤ GREATEST_EXPANDED_COST) where
   -- what is offered adds up by the guide

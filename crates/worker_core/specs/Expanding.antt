@@ -96,15 +96,15 @@ HasPlaces me lists offer = offer.owner ≡ me → 4 ≤ places_at lists.waiting 
 abbrev pub HasAllPlaces : ℕ → SearchListsModel → Offers → Type 0
 HasAllPlaces me lists offers = (4 ≤ lists.closed.room) × OfEach (HasPlaces me lists) offers
 
--- Room is made: there is all that was wanted. It is refused only where some of it was wanting, where all was there nothing changes,
--- and what is known and waits stays.
+-- Room is made: all that was asked for is there. It is refused only where some of it was missing, and where all was there nothing changes.
+-- What is known and what waits stay.
 pub record MakesRoom {A E : Type 0} (has : SearchListsModel → Type 0) (answer : Result A E) (old new : SearchListsModel) : Type 0 where
   pub ok : OnOk answer (has new)
   pub refused : OnErr answer (¬ has old)
   pub enough : has old → new ≡ old
   pub same : HasMoreRoom old new
 
--- a board is expanded next whose moves offer what there are too few places for
+-- there are too few places for what the moves of the board that is expanded next offer
 abbrev pub LacksPlacesToExpand : Successors → Role → WorkerState → SearchListsModel → Type 0
 LacksPlacesToExpand successors role worker lists =
     (b : BoardModel) × (known : Known) × IsNext role.task worker b known × (offers : Offers)

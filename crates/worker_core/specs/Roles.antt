@@ -1,4 +1,4 @@
--- What a worker is lent of the task that it shares, and how its lists stand to it.
+-- What a worker is lent of the task that it shares, and what its lists keep of it.
 use Rattle.std.specs.Prelude.{ℕ, ◌≡◌, ◌<◌, ◌≤◌, ◌+◌, Some}
 use Rattle.std.specs.FinMap as map
 use Rattle.board.specs.Weights.{WeightsModel}
@@ -33,7 +33,7 @@ pub record IsGuideOf (task : Task) (guide : Guide) : Type 0 where
   pub board : IsBoard task.goal
   pub sums : (b : BoardModel) → IsTaskBoard task b → guide.sum (search_key b) ≡ task.sum b
 
--- A guide of a task: the sum of the board of which a search key has the digits.
+-- A guide of a task: the sum of the board whose digits a search key has.
 abbrev pub guide_of : Task → Guide
 guide_of task = record { sum = λ key. task.sum (turned (record { grid = task.goal.grid; tiles = digits_in (key_base task.goal.grid) (cell_count task.goal.grid) key })); goal = search_key task.goal }
 

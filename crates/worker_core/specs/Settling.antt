@@ -21,8 +21,8 @@ use Rattle.worker_core.specs.declared.worker.Worker.{Worker}
 abbrev pub IsOwn : Role → Item → Type 0
 IsOwn role item = IsItemFor role.task role.owner role.me item
 
--- Any other is foreign: its board has other sides, another worker owns it, or its cost is above `GREATEST_COST`. No worker of a world
--- holds a foreign item. Of running threads that is known only after they were joined.
+-- Any other is foreign: its board has other sides, another worker owns it, or its cost is above `GREATEST_COST`. No worker of a world holds
+-- a foreign item. For running threads this is known only after they were joined.
 abbrev pub IsForeign : Role → Item → Type 0
 IsForeign role item = ¬ IsOwn role item
 

@@ -194,7 +194,7 @@ impl<C: Counting> Worker<C> {
     }
 }
 
-// The refusal of a step that a fault of the book's call is.
+// The refusal of a step, for a fault of the book's call.
 fn refusal_for(fault: BookFault) -> Refusal
     ensures { result ≡ refusal_of fault }
 {

@@ -45,7 +45,7 @@ pub enum Successors {
     /// Those by all moves.
     All,
     /// Those by all moves but the one back, to the board before the last move, where the board's
-    /// cost is above 0. Who made that cost known knows the board before.
+    /// cost is above 0. The worker that made that cost known knows the board before.
     Onward,
 }
 

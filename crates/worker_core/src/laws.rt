@@ -10,7 +10,7 @@ ghost use Rattle.worker_core.specs.Settling.{RefusedSettlesChangeNothing};
 use crate::lanes::{LaneIn, LaneOut, Queue};
 use message_ledger::{Counting, Packet};
 
-/// To the goal of each task a guide leads.
+/// A guide leads to the goal of each task.
 pub fn tasks_have_guides()
     ensures { TasksHaveGuides }
 {}

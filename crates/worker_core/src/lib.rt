@@ -1,8 +1,8 @@
 //! One worker of hash-distributed A* and its steps, and the lanes by which workers send one another
 //! packets.
 //!
-//! - A `Worker` has no model: clauses speak of `state_of` it, and of its `lists`, of whose order
-//!   the definitions say nothing.
+//! - A `Worker` has no model: clauses speak of `state_of` it, and of its `lists`, whose order the
+//!   definitions leave open.
 //! - Each step is one call whose clause `step` is the definition of that name. Guided lists stay
 //!   guided, also after a refusal.
 //! - A worker has no goal and no tables; its steps are lent them in a `Context`. Clauses hold for
@@ -19,7 +19,7 @@
 //!   several may have the same.
 //! - `LaneOut` and `LaneIn` are the ends of a lane. `IsAtSender` and `IsAtReceiver` are what a
 //!   worker may conclude from an answer. `Queue` has both ends.
-//! - Of a packet taken in, the table's buckets are read ahead; a board's sum is made only where its
+//! - The table's buckets are read ahead for a packet taken in. A board's sum is made only where its
 //!   cost is news.
 //! - Proofs: an expansion takes its offers one by one; `IsReady` says what the rest needs. The
 //!   book's calls make the steps, by laws of `world_model`.

@@ -13,7 +13,7 @@ use world_model::{Item, PACKET_LIMIT, WORKER_LIMIT};
 /// Items that are sent together.
 pub(crate) type Items = ArrayVec<Item, PACKET_LIMIT>;
 
-/// Nothing is to be sent to any of so many workers.
+/// An empty list of items for each worker: nothing is to be sent.
 pub(crate) fn new_packets(alloc: Global, workers: usize) -> Result<Vec<Items>, OutOfMemory>
     requires { workers ≤ WORKER_LIMIT }
     ensures { IfOk result (λ lists. packets_of lists.items ≡ replicate workers []) }

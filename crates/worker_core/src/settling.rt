@@ -123,7 +123,7 @@ fn relax_item<S: Spread>(
     Ok(())
 }
 
-// Whether a cost of a board is news. To find what is known of it is much cheaper than its sum is.
+// Whether a cost of a board is news. Finding what is known of it is much cheaper than its sum.
 fn brings_news(lists: &SearchLists, key: u128, cost: u32) -> bool
     ensures { result ≡ is_news (map.get lists.now.closed.known key) cost }
 {

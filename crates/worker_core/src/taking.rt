@@ -27,8 +27,8 @@ use search_lists::Met;
 use world_model::Item;
 
 impl<C: Counting> Worker<C> {
-    // Takes what a move offers: its own is relaxed, another's goes to the end of the packet for that
-    // one.
+    // Takes what a move offers: relaxes the worker's own board, and puts another's at the end of
+    // the packet for its owner.
     pub(crate) fn take<S: Spread>(&mut self, context: &Context<'_, S>, via: Move, offer: &Offer)
         requires { (rest : List (Option Offer)) × IsReady context.now.me context.now.goal.grid
             (stock self.old.lists (packets_of self.old.unsent.items)) (Some offer.now ∷ rest) }

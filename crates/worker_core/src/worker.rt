@@ -38,7 +38,7 @@ pub struct Worker<C: Counting> {
 }
 
 impl<C: Counting> Worker<C> {
-    /// One of so many workers. It knows nothing and holds nothing.
+    /// One of `workers` workers. It knows nothing and holds nothing.
     pub fn new(
         alloc: Global,
         workers: usize,

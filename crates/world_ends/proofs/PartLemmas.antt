@@ -338,11 +338,11 @@ lowest_is task owner_among states w parts lanes lowest laned least =
 
 -- ---- plans that are followed back
 
--- boards that are told apart differ
+-- boards differ where `position_eq` says that they do
 pub differs : (a b : BoardModel) → true ≡ not (position_eq a b) → a ≢ b
 differs a b e same = true≢false (e ∙ ap not (subst (λ (x : BoardModel). position_eq a x ≡ true) same (position_eq-laws.refl a)))
 
--- and boards that are not are the same
+-- and are the same where it says that they are
 pub same_as : (a b : BoardModel) → false ≡ not (position_eq a b) → a ≡ b
 same_as a b e = (positions_Decide a b).0 (not-false (position_eq a b) (sym e))
 
@@ -397,7 +397,7 @@ module _ (task : Task) (owner_among : ℕ → BoardModel → ℕ) (states : List
   cause_is : (stop : Option Stop) (cause : Cause) → w.book.stop ≡ stop → cause ≡ cause_of stop → cause ≡ cause_at at
   cause_is stop cause stopped is = is ∙ ap cause_of (sym stopped)
 
-  -- neither the frontier nor the goal is known
+  -- the frontier is empty and the goal is unknown
   pub no_plan : lesser lowest (cost_in known) ≡ None → EndsWhole w (Unsolvable Exhausted)
   no_plan none = given (outcome.Unsolvable Exhausted) (none, refl)
 
@@ -476,7 +476,7 @@ bound_at : (end : End) (bound : ℕ) (best : Option (ℕ × Vec Move Global)) (c
 bound_at end bound None cause stopped = stopped.0
 bound_at end bound (Some best) cause stopped = stopped.0
 
--- where memory is refused for rows that a bound needs, it stands alone
+-- where memory is refused for rows that a bound needs, the bound is given alone
 pub rows_lacking : (w : WorldState) (bound : ℕ) (best : Option (ℕ × Vec Move Global)) (cause : Cause) (refused : OutOfMemory) → w.task.sum w.task.start < bound → EndsWhole w (Bounded bound best cause) → IsGiven w (outcome.Bounded bound None (Memory (Refused refused)) None)
 rows_lacking w bound best cause refused above (lowest, reached, low, at, stopped) = (lowest, reached, low, at, ((bound_at (end_at w lowest reached) bound best cause stopped, refl, (refused, refl)), inr above))
 

@@ -66,7 +66,7 @@ two_places closed is i j key lt first second =
     let at' : get_or closed.keys j 0 ≡ key = get_or_from_slice_get closed.keys j key 0 second in
     apart i j 0 lt (slice_get_within closed.keys j key second) (at ∙ sym at')
 
--- the search key at a place is that of a board, of which this is known
+-- the search key at a place is that of a board, and this is known of it
 pub record IsAt (grid : ShapeModel) (closed : ClosedModel) (n : ℕ) (b : BoardModel) (known : Known) : Type 0 where
   pub board : IsBoard b
   pub sides : b.grid ≡ grid
@@ -251,7 +251,7 @@ at_key rows i d within = get_or-map key_in rows i d d.key within
 numbers_flip : (x y : ℕ) → nat_eq x y ≡ nat_eq y x
 numbers_flip = (decided nat_eq unsigned_Decides).symm
 
--- a row, to stand where there is none
+-- a row for places where there is none
 no_row : KeyedRow
 no_row = record { key = 0; cost = 0 }
 

@@ -1,4 +1,4 @@
--- What a world gives, but for rows.
+-- What a world gives, without rows.
 use Rattle.std.specs.Prelude.{ℕ, ◌≡◌, ◌≢◌, ◌⊎◌, List, Option, None}
 use Rattle.memory.specs.declared.OutOfMemory.{OutOfMemory}
 use Rattle.board.specs.declared.moves.Move.{Move}
@@ -24,7 +24,7 @@ pub record IsProvedPlan (w : WorldState) (cost : ℕ) (plan : List Move) : Type 
   pub bound : IsBoundOf (end_at w lowest reached) cost
   pub followed : IsFollowedBack (end_at w lowest reached) cost plan
 
--- the world ends so where no memory is refused, but for the rows
+-- the world ends so, without rows, where no memory is refused
 abbrev pub EndsWhole : WorldState → Ending → Type 0
 EndsWhole w (Optimal cost plan) = IsProvedPlan w cost plan.items
 EndsWhole w (Unsolvable why) = IsGiven w (outcome.Unsolvable why)
@@ -36,8 +36,7 @@ abbrev pub HasPlanAbove : WorldState → ℕ → Type 0
 HasPlanAbove w bound =
     (lowest : Option ℕ) × (reached : Option ℕ) × IsLowest w lowest × IsReached w reached × IsBoundOf (end_at w lowest reached) bound × (reached ≢ None)
 
--- The world ends so: as an outcome that it gives, but for rows, for which no memory is taken. Where it is refused for the plan, the bound
--- stands alone.
+-- The world ends so: with an outcome that it gives, without rows, for which no memory is taken. Where memory is refused for the plan, the bound is given alone.
 abbrev pub EndsIn : WorldState → Ending → Type 0
 EndsIn w (Optimal cost plan) = EndsWhole w (Optimal cost plan)
 EndsIn w (Unsolvable why) = EndsWhole w (Unsolvable why)

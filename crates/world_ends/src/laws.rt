@@ -22,7 +22,7 @@ ghost use Rattle.world_ends.specs.Laws.{RowsMakeAnAnswer, RowsMakeABoundAnswer, 
 use crate::reading::{Reading, WithFigures, WithRows, WithoutRows};
 use world_model::laws::outcomes_answer;
 
-/// An ending is an outcome but for its rows, and a bound where memory is refused for these.
+/// An ending is an outcome without its rows, and a bound where memory is refused for these.
 #[tactic(auto, using(crate::proofs::PartLemmas::rows_alone, crate::proofs::PartLemmas::bound_left, crate::proofs::PartLemmas::rows_make))]
 pub fn endings_lack_rows_alone()
     ensures rows { EndingsLackRowsAlone }
@@ -30,7 +30,7 @@ pub fn endings_lack_rows_alone()
     ensures answers { RowsMakeAnAnswer }
 {}
 
-/// So it is of a bound; and without rows memory is asked for but for the plan of a known goal.
+/// The same holds of a bound. Without rows memory is asked for only for the plan of a known goal.
 pub fn bounds_lack_rows_alone()
     ensures rows { BoundsLackRowsAlone }
     ensures memory { WantedRowsLeaveTheBound }

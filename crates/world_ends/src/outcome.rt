@@ -103,7 +103,7 @@ pub(crate) fn ending_of<C: Counting, S: Spread>(
     }
 }
 
-// The bound of a run for the plan of which memory was refused.
+// The bound of a run where memory was refused for its plan.
 #[derive(Clone, Copy, Debug)]
 struct PlanLacking {
     bound: u32,

@@ -69,7 +69,7 @@ pub trait Reading {
         ensures end { end parity ≡ Unsolvable Parity };
 }
 
-/// The outcome with its rows. A bound stands alone where memory is refused for its plan or rows.
+/// The outcome with its rows. A bound is given alone where memory is refused for its plan or rows.
 pub struct WithRows;
 
 impl Reading for WithRows {

@@ -31,8 +31,8 @@ struct KeyedRow {
 }
 
 /// The rows that prove a cost: the boards that the workers know at a cost plus sum below it, each
-/// with the cost at which it is known, in rising order of key. Where the start's sum proves the cost
-/// there is none, and no memory is taken.
+/// with the cost at which it is known, in rising order of key. Where the start's sum proves the
+/// cost there is none, and no memory is taken.
 pub fn rows_for<C: Counting>(
     alloc: Global,
     asked: &Asked<'_>,
@@ -100,7 +100,8 @@ fn add_rows(
     Ok(())
 }
 
-// Adds the row of a board that is known at a cost, where that plus the board's sum is below a limit.
+// Adds the row of a board that is known at a cost, where that plus the board's sum is below a
+// limit.
 fn add_row(
     rows: &mut Vec<KeyedRow>,
     asked: &Asked<'_>,

@@ -192,7 +192,7 @@ not_reached : (w : WorldState) (reached : Option ℕ) → ¬ KnowsGoal w → IsR
 not_reached w None unknown is = refl
 not_reached w (Some cost) unknown is = absurd (unknown (goal_there w (Some cost) is (λ e. cc)))
 
--- where neither the frontier nor the goal is known there is no bound
+-- where the frontier is empty and the goal is unknown there is no bound
 no_bound : (w : WorldState) (lowest reached : Option ℕ) (bound : ℕ) → lowest ≡ None → reached ≡ None → IsBoundOf (end_at w lowest reached) bound → ⊥
 no_bound w None None bound low at is = let e : ◌≡◌ {A = Option ℕ} None (Some is.0) = is.1 in cc
 no_bound w (Some f) reached bound low at is = cc

@@ -96,7 +96,7 @@ module _ (w : WorldState) (shaped : IsShaped w) (sound : IsSound w) (bound : IsL
   pub frontier_bounds : NothingBelow w.task.rule w.task.start w.task.goal n
   frontier_bounds plan j leads = let h = from_covered w.task.start 0 sound.start plan j leads in omega arith
 
--- ---- to each board that a sound world knows, or has under way, a plan leads, at no more than the cost that it has there
+-- ---- a plan leads to each board that a sound world knows, or has under way, at no more than the cost that it has there
 
 module _ (w : WorldState) (shaped : IsShaped w) (sound : IsSound w) where
   reached_from : (b : BoardModel) (cost : ℕ) (via : Move) (m : ℕ) → cost < suc m → ((i : ℕ) (x : BoardModel) (k : Known) → Knows w i x k → k.cost < m → IsLedTo w x k.cost) → HasPredecessor w b cost via → IsLedTo w b cost

@@ -90,7 +90,7 @@ book_sober : (i : ℕ) (BookStep : Turn AtBook Refusal → Type 0) → IsSober B
 book_sober i BookStep sober w w' answer refused (inl out) e = never answer refused _ out.1.0 (λ same. cc) e
 book_sober i BookStep sober w w' answer refused (inr (there, (worker, at, is, step, new))) e = sober _ at answer refused step e
 
--- a worker's own step wants memory just where it is accepted else
+-- a worker's own step may be refused memory just where it is otherwise accepted
 abbrev WantsLast : (Turn WorkerState Refusal → Type 0) → Type 0
 WantsLast OwnStep =
     (refused : OutOfMemory) (x : WorkerState)

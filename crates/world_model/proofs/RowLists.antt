@@ -195,7 +195,7 @@ sorted (first ∷ rows) same =
     let rest = sorted rows (λ row other has has'. same row other (later_in first rows row has) (later_in first rows other has')) in
     with_each first rows rest (with_one first rest.items rest.rise (λ row has. same first row (head_in first rows) (later_in first rows row ((rest.each row).0 has))))
 
--- what is known at a key stands among the entries
+-- where something is known at a key, an entry has this key
 found_entry : (key : ℕ) (known : Known) (es : List (ℕ × Known)) → find nat_cmp key es ≡ Some known → (e : ℕ × Known) × Contains es e × (e.0 ≡ key)
 found_entry key known [] at = cc
 found_entry key known (e ∷ es) at =

@@ -1,4 +1,4 @@
--- Workers that are computed: what is known is a list of entries, of which the first with a key counts.
+-- Workers that are computed: what is known is a list of entries, where the first with a key counts.
 use Rattle.std.proofs.Common.{◌≡◌, ◌≢◌, ◌⊎◌, ℕ, ◌+◌, ◌-◌, ◌<◌, ◌≤◌, Bool, true, false, ltb, List, [], ◌∷◌, ◌++◌, refl, sym, ap, ◌∙◌, subst, inl, inr, ⊎_elim, arith, Option, Some, None}
 use Rattle.std.specs.Prelude.{⊤, if◌then◌else◌, ◌==◌, nat_lt, fold, slice_get, slice_set, unwrap_or}
 use Rattle.std.specs.Ordering.{nat_cmp}

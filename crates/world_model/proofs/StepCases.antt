@@ -232,7 +232,7 @@ next_cases (Grant i) it next = on_book i (GrantStep (role_of it.before i)) (Gran
 next_cases (Rest i) it next = on_book i (RestStep (role_of it.before i)) (Rests (role_of it.before i)) (rest_cases (role_of it.before i)) it next
 next_cases (Halt i cause) it next = on_book i (HaltStep cause) (Halts cause) (halt_cases cause) it next
 
--- ---- steps on the book leave the boards and items of a worker as they are, and of the book its limit and the count of floors
+-- ---- steps on the book leave a worker's boards and items as they are, and the book's limit and count of floors
 
 -- the same boards are known, and the same items are held and unsent
 pub record IsSame (x y : WorkerState) : Type 0 where

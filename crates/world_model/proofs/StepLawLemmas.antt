@@ -90,7 +90,7 @@ same_last (x ∷ xs) (y ∷ ys) last last' e =
     let rest = same_last xs ys last last' tail in
     (λ t. head t ∷ rest.0 t, rest.1)
 
--- an item that is taken out, or a want of memory
+-- an item that is taken out, or memory that is refused
 settled_one : (x : WorkerState) (answer other : Option Refusal) (after after' new new' : WorkerState) → new ≡ new' → WithMemory (turn x answer after) (Becomes (turn x answer after) new) → WithMemory (turn x other after') (Becomes (turn x other after') new') → Agree answer other after after'
 settled_one x answer other after after' new new' e (inr out) q = inl (not_firm_memory answer out.0 out.1.0)
 settled_one x answer other after after' new new' e (inl p) (inr out) = inr (inl (not_firm_memory other out.0 out.1.0))

@@ -81,7 +81,7 @@ HaltStep cause it =
     Unless it (MayGoOn it.before cause) AllowanceLeft (
     Becomes it (at_book it.before.worker (record book { stop = Some (stop_of cause) }))))
 
--- the refusal of a worker's step that a fault of the book's call is
+-- the refusal of a worker's step, for a fault of the book's call
 abbrev pub refusal_of : BookFault → Refusal
 refusal_of RunStopped = Stopped
 refusal_of NoPurse = PurseEmpty

@@ -6,8 +6,8 @@ use Rattle.world_model.specs.declared.steps.Stop as stops
 use Rattle.world_model.specs.declared.steps.HaltCause.{HaltCause}
 use Rattle.world_model.specs.declared.steps.HaltCause as causes
 
--- The book. `credit` is what all purses and packets carry; `best` is the cost of the incumbent, the best plan that was announced;
--- `floors` has what each worker said when it rested last; `granted` counts the expansions that were granted, up to `limit`.
+-- The book. `credit` is what all purses and packets carry. `best` is the cost of the incumbent, the best plan that was announced. `floors`
+-- has what each worker said when it rested last. `granted` counts the expansions that were granted, up to `limit`.
 pub record BookState : Type 0 where
   pub credit : ℕ
   pub best : Option ℕ

@@ -25,7 +25,7 @@ same_move L = refl
 same_move R = refl
 same_move D = refl
 
--- moves are told apart by their numbers
+-- moves are coded by their numbers
 abbrev pub move_code : Coded Move
 move_code = code_by ℕ coded_ℕ move_number move_of same_move
 

@@ -19,7 +19,7 @@ items_by moves rule b cost = filter_map (λ m. option_map (λ next. record { boa
 abbrev pub successor_items : WeightsModel → BoardModel → ℕ → List Item
 successor_items rule b cost = items_by all_moves rule b cost
 
--- the worker with one successor more: its own is relaxed, another's goes to the end of the packet for that one
+-- the worker with one successor more: its own is relaxed, another worker's goes to the end of the packet for that worker
 abbrev pub with_successor : Role → WorkerState → Item → WorkerState
 with_successor role worker item =
     if role.owner item.board == role.me
@@ -39,7 +39,7 @@ expansion_by moves role worker b known = fold (with_successor role) (with_closur
 abbrev pub expansion : Role → WorkerState → BoardModel → Known → WorkerState
 expansion role worker b known = expansion_by all_moves role worker b known
 
--- the moves in their order, but for one that is left out, if any is
+-- the moves in their order, without the one that is left out, if any
 abbrev pub moves_but : Option Move → List Move
 moves_but None = all_moves
 moves_but (Some out) = filter (λ m. not (move_eq m out)) all_moves

@@ -69,8 +69,8 @@ KeptWorldsAreNeverCut =
 abbrev pub KeptWorldsHaveBegun : Type 0
 KeptWorldsHaveBegun = (w : WorldState) → IsKept w → w.book.stop ≡ Some Limit → GREATEST_GRANT * length w.workers < w.book.limit → HasBegun w
 
--- a bound is for the limit, or because a thread could not be started, only where the run was halted so; for the cost only where it stopped
--- by Quiet; and it is cut only where the run has not stopped
+-- A bound is for the limit, or because a thread could not be started, only where the run was halted so. It is for the cost only where the
+-- run stopped by Quiet. It is cut only where the run has not stopped.
 abbrev pub CausesAreTheStops : Type 0
 CausesAreTheStops =
     (w : WorldState) (bound : ℕ) (best : Option (ℕ × Vec Move Global)) (cause : Cause)
@@ -80,7 +80,7 @@ CausesAreTheStops =
     × (cause ≡ ForCost → w.book.stop ≡ Some Quiet)
     × (cause ≡ ForCut → w.book.stop ≡ None)
 
--- so where it is for the limit, all of that is granted, and spent but for one grant for each worker but one
+-- so where a bound is for the limit, all of the limit is granted, and spent except at most one grant for each worker but one
 abbrev pub LimitBoundsAreSpent : Type 0
 LimitBoundsAreSpent =
     (w : WorldState) (bound : ℕ) (best : Option (ℕ × Vec Move Global))
@@ -115,8 +115,8 @@ RowsAreLeftOutForMemory =
     → IsGiven w (Bounded bound best cause None)
     → (best ≡ None) × ((refused : OutOfMemory) × (cause ≡ ForMemory (Refused refused))) × (KnowsGoal w ⊎ (w.task.sum w.task.start < bound))
 
--- Where the goal is unknown, no memory is asked for if the frontier is empty, or if the bound is the start's sum: there is no plan, or the
--- bound has its rows, of which there is none.
+-- Where the goal is unknown, no memory is asked for if the frontier is empty, or if the bound is the start's sum. The answer is that there
+-- is no plan, or the bound with its rows, an empty list.
 abbrev pub UnknownGoalsWantNoMemory : Type 0
 UnknownGoalsWantNoMemory =
     (w : WorldState)
@@ -143,9 +143,9 @@ WorldsGiveOutcomes =
     → ¬ ((moves : List Move) (listed : List (BoardModel × ℕ))
     → ¬ ((plan : Vec Move Global) (rows : Vec (BoardModel × ℕ) Global) → plan.items ≡ moves → rows.items ≡ listed → (outcome : Outcome) × IsGiven w outcome))
 
--- In every world that a run reaches: no lane has too many packets; no packet is empty in a lane, or has too many items, there, held or
--- unsent; each board is known to its owner alone, and each item is under way to it, at no cost above the greatest; and the goal is not
--- closed.
+-- In every world that a run reaches, no lane has too many packets. No packet has too many items, in a lane, held or unsent, and none in a
+-- lane is empty. Each board is known to its owner alone, and each item is under way to its owner, at no cost above the greatest. The goal
+-- is not closed.
 abbrev pub RunsStayWithinLimits : Type 0
 RunsStayWithinLimits =
     (job : Job) (via : Move) (made : List (Step × Option Refusal)) (w : WorldState)
@@ -179,8 +179,8 @@ PlansAreWithinReach =
     ((w : WorldState) (cost : ℕ) (plan : Vec Move Global) (rows : Vec (BoardModel × ℕ) Global) → IsGiven w (Optimal cost plan rows) → IsWithinReach w cost plan)
     × ((w : WorldState) (bound : ℕ) (best : ℕ × Vec Move Global) (cause : Cause) → IsBounded w bound (Some best) cause → IsWithinReach w best.0 best.1)
 
--- In no world that a run reaches is the credit above 2^63 and what is drawn at once. So no purse is the greatest u64 there, and no packet
--- is refused for a full purse.
+-- The credit of each world that a run reaches is at most 2^63 plus what is drawn at once. So no purse is the greatest u64 there, and no
+-- packet is refused for a full purse.
 abbrev pub CreditStaysLow : Type 0
 CreditStaysLow =
     (job : Job) (via : Move) (made : List (Step × Option Refusal)) (w : WorldState)

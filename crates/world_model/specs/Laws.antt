@@ -105,15 +105,15 @@ OpeningsAreSound =
     → IsJob job
     → IsShaped (opening job via) × IsSound (opening job via) × IsCredited (opening job via) × ((opening job via).book.limit ≡ job.limit)
 
--- to each board that a sound world knows a plan leads, at no more than the cost that is known: last moves can be followed back
+-- a plan leads to each board that a sound world knows, at no more than the cost that is known: last moves can be followed back
 abbrev pub KnownBoardsAreReached : Type 0
 KnownBoardsAreReached = (w : WorldState) → IsShaped w → IsSound w → (i : ℕ) (b : BoardModel) (known : Known) → Knows w i b known → IsLedTo w b known.cost
 
--- and so to each that is under way
+-- and to each that is under way
 abbrev pub ItemsAreReached : Type 0
 ItemsAreReached = (w : WorldState) → IsShaped w → IsSound w → (to : ℕ) (item : Item) → IsUnderWay w to item → IsLedTo w item.board item.cost
 
--- no plan costs less than a number that no board of a sound world's frontier is below, nor the cost at which the goal is known
+-- no plan costs less than n, where no board of a sound world's frontier is below n, nor the cost at which the goal is known
 abbrev pub FrontiersBound : Type 0
 FrontiersBound =
     (w : WorldState) (n : ℕ)
@@ -174,7 +174,7 @@ RunsAreKept =
     → w.book.stop ≢ Some Start
     → IsKept w
 
--- its workers together expanded at most the limit; where it stopped for the limit, all of it but one grant for each worker but one
+-- its workers together expanded at most the limit; where it stopped for the limit, all of it except at most one grant for each worker but one
 abbrev pub RunsSpendTheLimit : Type 0
 RunsSpendTheLimit =
     (job : Job) (via : Move) (made : List (Step × Option Refusal)) (w : WorldState)
@@ -192,8 +192,8 @@ OneWorkerSpendsTheLimit =
     → w.book.stop ≡ Some Limit
     → expansion_count w ≡ job.limit
 
--- The workers of a credited world expanded at most the limit. Where it stopped for the limit, all of that is granted, and it is spent
--- but for one grant for each worker but one.
+-- The workers of a credited world expanded at most the limit. Where the world stopped for the limit, all of it is granted, and spent except
+-- at most one grant for each worker but one.
 abbrev pub LimitIsSpent : Type 0
 LimitIsSpent =
     (w : WorldState)

@@ -73,22 +73,22 @@ cause_of None = ForCut
 abbrev pub cause_at : End → Cause
 cause_at end = cause_of end.world.book.stop
 
--- the run stopped early with this bound; beside it stands the plan that is followed back, which costs more, if the goal is known
+-- the run stopped early with this bound, and with the plan that is followed back, which costs more, if the goal is known
 abbrev pub IsStoppedAt : End → ℕ → Option (ℕ × Vec Move Global) → Cause → Type 0
 IsStoppedAt end bound None cause = IsBoundOf end bound × (end.reached ≡ None) × (cause ≡ cause_at end)
 IsStoppedAt end bound (Some best) cause = IsBoundOf end bound × IsFollowedBack end best.0 best.1.items × (best.0 ≢ bound) × (cause ≡ cause_at end)
 
--- the bound stands alone, since memory was refused
+-- the bound is given alone, without a plan, since memory was refused
 abbrev pub IsAloneAt : End → ℕ → Option (ℕ × Vec Move Global) → Cause → Type 0
 IsAloneAt end bound best cause = IsBoundOf end bound × (best ≡ None) × ((refused : OutOfMemory) × (cause ≡ ForMemory (Refused refused)))
 
--- memory is asked for: for the plan of a goal that is known, or for rows, which no bound needs that is the start's sum
+-- memory is asked for: for the plan of a goal that is known, or for the rows of a bound above the start's sum
 abbrev pub AsksForMemory : End → ℕ → Type 0
 AsksForMemory end bound = (end.reached ≢ None) ⊎ (end.world.task.sum end.world.task.start < bound)
 
--- Neither the frontier nor the goal is known: no plan. Else the bound is given. Where the plan that is followed back costs just that,
--- it is optimal, and has its rows. Else the bound is given with its rows, and with the plan, if the goal is known. Where the plan or the
--- rows find no memory, it is given alone.
+-- Where the frontier is empty and the goal is unknown, there is no plan. Else the bound is given. Where the plan that is followed back
+-- costs just that, it is optimal, and has its rows. Else the bound is given with its rows, and with the plan, if the goal is known. Where
+-- the plan or the rows find no memory, it is given alone.
 abbrev pub IsGivenAt : End → Outcome → Type 0
 IsGivenAt end (Optimal cost plan rows) = IsBoundOf end cost × IsFollowedBack end cost plan.items × AreRowsFor end.world cost rows.items
 IsGivenAt end (Unsolvable why) = (floor end ≡ None) × (why ≡ Exhausted)

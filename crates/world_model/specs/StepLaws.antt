@@ -68,7 +68,7 @@ TakesMemory (Grant i) = ⊥
 TakesMemory (Rest i) = ⊥
 TakesMemory (Halt i cause) = ⊥
 
--- the answer hangs neither on memory, nor on which of several boards of least cost plus sum is expanded
+-- the answer depends neither on memory, nor on which of several boards of least cost plus sum is expanded
 abbrev pub IsFirm : Option Refusal → Type 0
 IsFirm answer = (answer ≢ Some NoRoom) × ((refused : OutOfMemory) → answer ≢ Some (Memory refused))
 
@@ -82,7 +82,7 @@ AnswersAgree =
     → IsFirm other
     → answer ≡ other
 
--- a step leaves one world, but for an expansion, where several boards may be of least cost plus sum
+-- a step leaves one world, unless it is an expansion, where several boards may be of least cost plus sum
 abbrev pub StepsAreDetermined : Type 0
 StepsAreDetermined =
     (step : Step) (w : WorldState) (answer : Option Refusal) (w' w'' : WorldState)
@@ -91,7 +91,7 @@ StepsAreDetermined =
     → Next step (turn w answer w'')
     → w' ≡ w''
 
--- memory may be refused just where a step that takes it is accepted else
+-- memory may be refused just where a step that takes it is otherwise accepted
 abbrev pub MemoryIsLast : Type 0
 MemoryIsLast =
     (step : Step) (w : WorldState) (refused : OutOfMemory)
@@ -107,7 +107,7 @@ LeastIsExpanded =
     → after.expanded ≡ true
     → IsNext role.task it.before b before × (before.cost + role.task.sum b < limit_of it.before.best) × (it.answer ≡ None)
 
--- of all moves one is left out, if any is
+-- all moves are there except the one that is left out, if any
 abbrev pub OneMoveIsLeftOut : Type 0
 OneMoveIsLeftOut = (out : Option Move) (m : Move) → Contains (moves_but out) m ↔ (out ≢ Some m)
 

@@ -28,7 +28,7 @@ use Rattle.world_model.specs.Outcomes.{IsGiven}
 abbrev pub by_blank : ℕ → BoardModel → ℕ
 by_blank count b = blank_of b % count
 
--- plans of least moves from one board to another, without a heuristic and without a limit, by so many workers
+-- the job of a plan of fewest moves from one board to another, without a heuristic and without a limit, by `count` workers
 abbrev pub plain_job : BoardModel → BoardModel → ℕ → Job
 plain_job start goal count = record {
   task = record { start = start; goal = goal; rule = unit_rule start.grid; sum = λ _. 0 };
@@ -116,7 +116,7 @@ RefusalsAreGiven =
     ∷ [])
     (Bounded 0 None ForCut (Some rows))
 
--- who has spent the purse, still has something to do, holds a packet or was granted enough is refused, and the goal is announced once
+-- a worker that has spent its purse, still has something to do, holds a packet or was granted enough is refused, and the goal is announced once
 abbrev pub RefusalsOnTheWayAreGiven : Type 0
 RefusalsOnTheWayAreGiven =
     (w : WorldState)

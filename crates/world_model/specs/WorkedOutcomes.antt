@@ -77,7 +77,7 @@ MemoryIsGiven =
     → Gives one_move (first_half ++ second_half) (Bounded 1 None (ForMemory (Refused refused)) None)
     × Gives one_move first_half (Bounded 1 None (ForMemory (Refused refused)) None)
 
--- of the same start, a run that was halted because a thread could not be started
+-- from the same start, a run that was halted because a thread could not be started
 abbrev pub StartIsGiven : Type 0
 StartIsGiven = (rows : Vec (BoardModel × ℕ) Global) → rows.items ≡ [] → Gives one_move (ok (Halt 0 Start) ∷ []) (Bounded 0 None ForStart (Some rows))
 
@@ -95,7 +95,7 @@ EmptyPlanIsGiven =
 abbrev pub two_moves : Job
 two_moves = plain_job (two_by_two 1 3 2 0) (two_by_two 0 3 1 2) 1
 
--- two boards are expanded, of which the second one's successor is the goal; a board at 1 is open
+-- two boards are expanded, and the second one's successor is the goal; a board at 1 is open
 abbrev pub two_expansions : List Step
 two_expansions = Grant 0 ∷ Expand 0 ∷ Expand 0 ∷ []
 
@@ -153,6 +153,6 @@ OpeningsAreNotKept =
     let w : WorldState = opening one_move U in
     (¬ IsKept w) × (¬ IsKept (record w { book = record w.book { stop = Some StopStart } })) × (¬ IsKept (record w { book = record w.book { stop = Some StopLimit } }))
 
--- the job of one move, by so many workers, is one just where they are 1 to 16
+-- the job of one move is a job just where it has 1 to 16 workers
 abbrev pub JobsAreOfAllCounts : Type 0
 JobsAreOfAllCounts = (count : ℕ) → IsJob (plain_job (two_by_two 1 0 2 3) (goal_of (grid_of 2 2)) count) ↔ ((1 ≤ count) × (count ≤ 16))

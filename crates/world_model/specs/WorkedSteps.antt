@@ -1,5 +1,5 @@
--- Worked steps: single steps of a worker with a lane or a book that are written down, where a short run does not lead; among them each
--- limit, just at it and just below, and each pair of refusals of which the first decides.
+-- Worked steps: single steps of a worker with a lane or a book, written down where no short run leads. Among them are each limit, just at
+-- it and just below, and each pair of refusals where the first decides.
 use Rattle.std.specs.Prelude.{ℕ, ◌+◌, ◌-◌, ◌^◌, List, [], ◌∷◌, ◌++◌, true, false, Option, None, Some, replicate}
 use Rattle.std.specs.FinMap as map
 use Rattle.board.specs.declared.moves.Move.TheVariants.{U, L, R, D}
@@ -45,11 +45,11 @@ with_purse purse = record { known = map.empty; held = []; unsent = [] ∷ [] ∷
 abbrev pub goal_at : ℕ → Item
 goal_at cost = record { board = goal_of (grid_of 2 2); cost = cost; via = L }
 
--- so many packets, with the goal in each
+-- `count` packets, with the goal in each
 abbrev pub lane_of : ℕ → Lane
 lane_of count = replicate count (goal_at 2 ∷ [])
 
--- a worker that has so many items for worker 0, and this purse, at a lane
+-- a worker with `count` items for worker 0 and this purse, at a lane
 abbrev pub sends : ℕ → ℕ → Lane → AtLane
 sends count purse lane = record { worker = record (with_purse purse) { unsent = replicate count (goal_at 1) ∷ [] ∷ [] }; lane = lane }
 
@@ -61,7 +61,7 @@ FullLanesRefuse =
     × SendStep 0 (refused (sends 1 1 (lane_of LANE_LIMIT)) PurseTooSmall)
     × SendStep 0 (refused (sends 0 1 (lane_of LANE_LIMIT)) NothingThere)
 
--- a worker that holds so many items, with this purse, at a lane
+-- a worker that holds these items, with this purse, at a lane
 abbrev pub takes : List Item → ℕ → Lane → AtLane
 takes held purse lane = record { worker = record (with_purse purse) { held = held }; lane = lane }
 
@@ -77,7 +77,7 @@ FullPursesRefuse =
     × DeliverStep (refused (takes (goal_at 1 ∷ []) greatest_sum (lane_of 1)) StillHolding)
     × DeliverStep (refused (takes [] greatest_sum []) PurseFull)
 
--- a book with this credit, which has granted so much of a limit of 300, and has stopped or not
+-- a book with this credit, which has granted this much of a limit of 300, and has stopped or not
 abbrev pub book_with : ℕ → ℕ → Option Stop → BookState
 book_with credit granted stop = record { credit = credit; best = None; floors = None ∷ None ∷ []; granted = granted; limit = GREATEST_GRANT + 44; stop = stop }
 
@@ -111,7 +111,7 @@ start_open = map.insert map.empty (search_key start_board) (entry_of 0 false U)
 abbrev pub start_closed : Knowledge
 start_closed = map.insert start_open (search_key start_board) (entry_of 0 true U)
 
--- the worker that may expand the start so often, and has so many items for worker 0
+-- a worker that knows the start as open, with this allowance and `count` items for worker 0
 abbrev pub expands : ℕ → ℕ → WorkerState
 expands allowance count = record (with_purse 1) { known = start_open; unsent = replicate count (goal_at 2) ∷ [] ∷ []; allowance = allowance }
 
@@ -137,7 +137,7 @@ FullPacketsRefuse =
 abbrev pub three_ways : Job
 three_ways = plain_job (two_by_three (1 ∷ 0 ∷ 2 ∷ 3 ∷ 4 ∷ 5 ∷ [])) (two_by_three (5 ∷ 4 ∷ 3 ∷ 2 ∷ 1 ∷ 0 ∷ [])) 2
 
--- the worker that owns it, with so much allowance, knowledge and items for worker 0
+-- the worker that owns it, with this allowance, these expansions, what is known, and the packet for worker 0
 abbrev pub three_by : ℕ → ℕ → Knowledge → Packet → WorkerState
 three_by allowance expansions known packet = record (with_purse 1) { known = known; unsent = packet ∷ [] ∷ []; allowance = allowance; expansions = expansions }
 
@@ -169,8 +169,8 @@ LowerGoalsAreAnnounced =
     × AnnounceStep starter (refused (beside goal_known (book_best 4 None)) NothingToAnnounce)
     × AnnounceStep starter (refused (beside goal_known (book_best 3 (Some Quiet))) Stopped)
 
--- Of a limit of 300 are granted 256, and then 44, and the copy is renewed. A stop comes first; then that nothing is below the best cost
--- of the book, whatever the copy; then an allowance; and that all is granted last.
+-- A limit of 300 is granted as 256 and then 44, and the copy is renewed. A stop comes first, then that nothing is below the best cost of
+-- the book, whatever the copy, then an allowance, and last that all is granted.
 abbrev pub GrantsAreWhole : Type 0
 GrantsAreWhole =
     GrantStep starter (accepted (beside (expands 0 0) (book_best 9 None)) (beside (record (expands GREATEST_GRANT 0) { best = Some 9 }) (record (book_best 9 None) { granted = GREATEST_GRANT })))

@@ -101,7 +101,8 @@ pub fn other_ends()
     ensures start { StartIsGiven }
 {}
 
-/// An opening world is not kept, whatever stops it but memory.
+/// An opening world is not kept where it has not stopped, nor where it stopped for a thread or for
+/// the limit.
 #[tactic(auto, using(crate::proofs::WorkedOutcomeLemmas::not_kept))]
 pub fn unkept()
     ensures { OpeningsAreNotKept }

@@ -10,7 +10,7 @@ use lower_bound::Bound;
 use pattern_index::{Group, Partition};
 use std::alloc::Global;
 
-// What the words say, each by its own name.
+// The values of a setup's words, each by its own name.
 #[derive(Clone, Copy)]
 struct Words<'a> {
     rows: &'a str,

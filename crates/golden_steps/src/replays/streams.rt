@@ -1,5 +1,4 @@
-//! A reader and a writer that print what passes through them, and the bytes that a line in escapes
-//! stands for.
+//! A reader and a writer that print what passes through them, and the bytes of a line in escapes.
 
 ghost use Rattle.std.specs.Prelude.{◌<◌, length, IfSome};
 
@@ -110,8 +109,8 @@ fn print_lines(rt: &impl Print, mark: &str, bytes: &[u8]) -> io::Result<()> {
     Ok(())
 }
 
-// The bytes that a line in escapes stands for, and a line feed if no lone `\` takes it away.
-// `None` where a `\` begins no escape.
+// The bytes of a line in escapes, and a line feed if no lone `\` takes it away. `None` where a `\`
+// begins no escape.
 fn line_of(alloc: Global, text: &str) -> io::Result<Option<Vec<u8>>> {
     let mut bytes = Vec::new(alloc);
     let mut rest = text.as_bytes();
@@ -129,7 +128,7 @@ fn line_of(alloc: Global, text: &str) -> io::Result<Option<Vec<u8>>> {
     Ok(Some(bytes))
 }
 
-// The first byte that a text in escapes stands for, and the text after it.
+// The first byte of a text in escapes, and the text after it.
 fn first_byte(text: &[u8]) -> Option<(u8, &[u8])>
     ensures { IfSome result (λ first. length first.1.now < length text.now) }
 {

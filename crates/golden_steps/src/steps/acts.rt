@@ -1,4 +1,4 @@
-//! What is done in a scene, line by line, and the words for what it answers.
+//! What is done in a scene, line by line, and words for what it answers.
 
 use crate::steps::scenes::{Act, Row};
 use crate::steps::team::Team;

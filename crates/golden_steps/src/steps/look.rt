@@ -15,7 +15,7 @@ use world_model::Item;
 // The text between two pieces.
 const BETWEEN: &str = "; ";
 
-// How many items are listed at most. Of a longer list the length and the last item are shown.
+// How many items are listed at most. A longer list is shown by its length and its last item.
 const MOST_LISTED: usize = 4;
 
 /// What is seen of a team.

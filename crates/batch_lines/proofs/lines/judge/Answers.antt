@@ -32,7 +32,7 @@ whole_line line kept start scan =
     let short : length line ≤ KEPT = ⊎_elim (λ (long : KEPT < length line). absurd (let e = scan.long.1 long in cc)) (λ (l : length line ≤ KEPT). l) (cases_lt KEPT (length line)) in
     scan.first ∙ take_all KEPT line short
 
--- a line of which all bytes are kept, and what is left of them without a carriage return
+-- a line whose bytes are all kept, and what is left of them without a carriage return
 judged_long : (line kept left : List ℕ) (start : Start) (more : Bool) → IsScanned line kept (scan_of start more) → passes start ≡ false → more ≡ false → left ≡ without_return kept → LINE_LIMIT < length left → IsJudged line TooLong left
 judged_long line kept left start more scan answered all dropped long =
     let whole = whole_line line kept start (subst (λ (m : Bool). IsScanned line kept (scan_of start m)) all scan) in

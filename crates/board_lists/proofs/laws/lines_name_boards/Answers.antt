@@ -42,7 +42,7 @@ spelled_each (t ∷ tiles) low = (spelled t (omega (arith, low.0)), spelled_each
 
 -- ---- words
 
--- bytes of which none is a blank, and at least one is there
+-- one byte or more, none a blank
 record IsWord (word : List ℕ) : Type 0 where
   some : 0 < length word
   whole : All (λ b. is_blank b ≡ false) word

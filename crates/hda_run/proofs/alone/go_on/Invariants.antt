@@ -3,7 +3,7 @@ use Rattle.hda_run.specs.Rounds.{Reaches, work_left}
 use Rattle.hda_run.specs.Worlds.{world_of}
 use Rattle.hda_run.proofs.alone.go_on.Given as goal
 
--- the steps so far are none to halt the run, and the worker is alone still
+-- no step so far halts the run, and the worker is still alone
 abbrev pub invariant-rounds : goal.invariant-rounds
 invariant-rounds g l =
     let owner_of = g.S.Spread.owner_of in

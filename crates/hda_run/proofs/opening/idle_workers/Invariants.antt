@@ -7,7 +7,7 @@ use Rattle.worker_core.specs.Workers.{state_of}
 use Rattle.world_model.specs.Openings.{idle_worker}
 use Rattle.hda_run.proofs.opening.idle_workers.Given as goal
 
--- so many idle workers, whose lists are guided, and there is room for all
+-- `count` idle workers, whose lists are guided, and there is room for all
 abbrev pub invariant-workers : goal.invariant-workers
 invariant-workers l =
     (map (λ worker. state_of worker) l.made.items ≡ replicate l.count (idle_worker l.fn.workers))

@@ -5,7 +5,7 @@ use Rattle.std.proofs.lemmas.Slice.Eq.{bytes_eq-Decides}
 use Rattle.option_texts.proofs.CostLemmas.{weights_read, weights_fault}
 use Rattle.option_texts.proofs.weights.read_costs.Goals as goal
 
--- a text that a test tells from a word is another
+-- where the test of equality fails, the text is not the word
 differs : (text word : List ℕ) (same : Bool) → same ≡ bytes_eq text word → same ≡ false → text ≢ word
 differs text word same test failed = λ is. true≢false (sym ((bytes_eq-Decides text word).1 is) ∙ sym test ∙ failed)
 

@@ -5,7 +5,7 @@ use Rattle.std.proofs.lemmas.Result.{on_ok_weaker}
 use Rattle.pattern_graph.proofs.EdgeLemmas.{home_within, written_rising, written_added}
 use Rattle.pattern_graph.proofs.edges.add_region.Goals as goal
 
--- so many of nine cells
+-- the first `count` of nine cells
 first_length : (count : ℕ) → count ≤ 9 → length (take {A = ℕ} count (0 ∷ 0 ∷ 0 ∷ 0 ∷ 0 ∷ 0 ∷ 0 ∷ 0 ∷ 0 ∷ [])) ≡ count
 first_length count short = length-take-le {A = ℕ} count (0 ∷ 0 ∷ 0 ∷ 0 ∷ 0 ∷ 0 ∷ 0 ∷ 0 ∷ 0 ∷ []) short
 

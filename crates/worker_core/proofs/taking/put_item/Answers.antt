@@ -3,7 +3,6 @@ use Rattle.world_model.specs.Workers.{Packet}
 use Rattle.worker_core.proofs.GuideLemmas.{packet_replaced, packet_read}
 use Rattle.worker_core.proofs.taking.put_item.Goals as goal
 
--- src/taking.rt:76:1
 pub returns : goal.returns
 returns c =
     let xs = c.args.packets.now.items in

@@ -10,14 +10,12 @@ use Rattle.world_ends.specs.Lowest.{IsLeastBeside, IsOfItem}
 use Rattle.world_ends.proofs.PartLemmas.{item_more}
 use Rattle.world_ends.proofs.lowest.lowest_of.Goals as goal
 
--- src/lowest.rt:28:29
 pub of_keyed-requires : goal.of_keyed-requires
 of_keyed-requires c =
     let within : c.items.item-index < length c.args.items.now = search rules in
     let has : Contains c.args.items.now c.item-item.result = subst (Contains c.args.items.now) (sym c.item-item.is) (Contains-get_or c.args.items.now c.items.item-index c.item-item.result within) in
     (c.requires c.item-item.result has).0
 
--- src/lowest.rt:28:17
 pub overflow_add-f : goal.overflow_add-f
 overflow_add-f c =
     let within : c.items.item-index < length c.args.items.now = search rules in
@@ -26,7 +24,6 @@ overflow_add-f c =
     let high = c.of_keyed.ensures.high in
     omega (arith, low, high)
 
--- src/lowest.rt:27:5
 pub items-preserved : goal.items-preserved
 items-preserved c =
     let sum = sum_of (parts_of c.args.bound.now) in
@@ -35,7 +32,6 @@ items-preserved c =
     subst (λ (o : Option ℕ). IsLeastBeside (IsOfItem sum (take (c.items.item-index + 1) c.args.items.now)) c.args.lowest o) (sym c.lesser-least.ensures)
     (item_more sum c.args.items.now c.items.item-index c.item-item.result (c.item-item.result.cost + c.of_keyed.result) c.args.lowest c.items.least within at (ap (λ (n : ℕ). c.item-item.result.cost + n) c.of_keyed.ensures.value) c.items.invariant)
 
--- src/lowest.rt:22:1
 pub returns : goal.returns
 returns c =
     let sum = sum_of (parts_of c.args.bound.now) in

@@ -8,13 +8,11 @@ use Rattle.world_ends.specs.Lowest.{IsLeastBeside, IsOfItem, IsOfUnsent}
 use Rattle.world_ends.proofs.PartLemmas.{worker_is}
 use Rattle.world_ends.proofs.lowest.lowest_of_worker.Goals as goal
 
--- src/lowest.rt:81:9
 pub lowest_of-least-requires : goal.lowest_of-least-requires
 lowest_of-least-requires g c = λ item has.
     let same : c.held.result.now ≡ (state_of c.args.worker.now).held = c.held.ensures ∙ ap (λ (s : WorkerState). s.held) c.floor-floor.ensures.same in
     c.requires.items.held item (subst (λ (items : List Item). Contains items item) same has)
 
--- src/lowest.rt:67:1
 pub returns-clause-least : goal.returns-clause-least
 returns-clause-least g c = λ guide is.
     let task = task_asked c.args.asked.now in
@@ -26,6 +24,5 @@ returns-clause-least g c = λ guide is.
     (subst (λ (o : Option ℕ). IsLeastBeside (IsOfItem task.sum worker.held) o c.lowest_of-least.result) c.lesser-least.ensures held)
     unsent
 
--- src/lowest.rt:67:1
 pub returns-clause-guided : goal.returns-clause-guided
 returns-clause-guided g c = λ guide is. c.floor-floor.ensures.guided (task_asked c.args.asked.now) guide is

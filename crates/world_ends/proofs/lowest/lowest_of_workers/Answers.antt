@@ -10,14 +10,12 @@ use Rattle.world_ends.specs.Lowest.{IsLeastBeside}
 use Rattle.world_ends.proofs.PartLemmas.{IsOfWorkersUpTo, worker_more, all_workers, state_at}
 use Rattle.world_ends.proofs.lowest.lowest_of_workers.Goals as goal
 
--- src/lowest.rt:61:9
 pub lowest_of_worker-least-requires-clause-items : goal.lowest_of_worker-least-requires-clause-items
 lowest_of_worker-least-requires-clause-items g c κs lives =
     let within : c.workers.i < length c.workers.workers = search rules in
     let d = c.index-workers-i.result in
     c.requires.items c.workers.i (state_of (slice_index_or c.workers.workers c.workers.i d)) (state_at c.workers.workers (states_of c.args.workers.now) c.workers.i d c.workers.invariant.same within)
 
--- src/lowest.rt:60:5
 pub workers-preserved : goal.workers-preserved
 workers-preserved g c =
     let task = task_asked c.args.asked.now in
@@ -36,7 +34,6 @@ workers-preserved g c =
           );
     }
 
--- src/lowest.rt:48:1
 pub returns-clause-least : goal.returns-clause-least
 returns-clause-least g c = λ guide is.
     let task = task_asked c.args.asked.now in

@@ -8,7 +8,6 @@ use Rattle.world_ends.specs.Lowest.{IsLeastBeside}
 use Rattle.world_ends.proofs.PartLemmas.{IsOfUnsentUpTo, packet_at, packet_more, all_packets}
 use Rattle.world_ends.proofs.lowest.lowest_unsent.Goals as goal
 
--- src/lowest.rt:93:9
 pub lowest_of-least-requires : goal.lowest_of-least-requires
 lowest_of-least-requires g c =
     let worker = state_of c.args.worker.now in
@@ -16,7 +15,6 @@ lowest_of-least-requires g c =
     let within : c.packets.to < length worker.unsent = simp length-map inside in
     c.requires.unsent c.packets.to c.unsent.result.now (packet_at worker.unsent c.packets.to c.unsent.result.now within c.unsent.ensures.value)
 
--- src/lowest.rt:92:5
 pub packets-preserved : goal.packets-preserved
 packets-preserved g c =
     let worker = state_of c.args.worker.now in
@@ -25,7 +23,6 @@ packets-preserved g c =
     let at : slice_get worker.unsent c.packets.to ≡ Some c.unsent.result.now = packet_at worker.unsent c.packets.to c.unsent.result.now within c.unsent.ensures.value in
     packet_more (sum_of (parts_of c.args.bound.now)) worker c.packets.to c.unsent.result.now c.args.lowest c.packets.least c.lowest_of-least.result at c.packets.invariant c.lowest_of-least.ensures
 
--- src/lowest.rt:86:1
 pub returns : goal.returns
 returns g c =
     let worker = state_of c.args.worker.now in

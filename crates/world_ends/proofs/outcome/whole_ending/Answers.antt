@@ -8,12 +8,10 @@ use Rattle.world_ends.specs.Plans.{IsTraced}
 use Rattle.world_ends.proofs.PartLemmas.{items_are, cost_in, no_plan, no_goal, no_memory, plan_above, plan_least}
 use Rattle.world_ends.proofs.outcome.whole_ending.Goals as goal
 
--- src/outcome.rt:96:9
 pub lowest_in-lowest-requires-clause-items : goal.lowest_in-lowest-requires-clause-items
 lowest_in-lowest-requires-clause-items g c κs within = λ i worker at.
     items_are (task_asked c.args.asked.now) (g.S.Spread.owner_of c.args.owners.now) (states_of c.args.workers.now) c.requires.world c.requires.parts c.args.asked.now.bound.now.split.grid c.requires.sides i worker at
 
--- src/outcome.rt:99:9
 pub returns-in_default-clause-given : goal.returns-in_default-clause-given
 returns-in_default-clause-given g c = λ w seen.
     let task = task_asked c.args.asked.now in
@@ -24,7 +22,6 @@ returns-in_default-clause-given g c = λ w seen.
     let none : lesser c.lowest_in-lowest.result (cost_in c.known_of-reached.result) ≡ None = sym c.floor_of.ensures ∙ c.in_default.is in
     no_plan task owner_among states w seen.parts c.args.snapshot.lanes c.lowest_in-lowest.result seen.lanes least c.known_of-reached.result found none
 
--- src/outcome.rt:106:9
 pub returns-in_default-reached-clause-given : goal.returns-in_default-reached-clause-given
 returns-in_default-reached-clause-given g c = λ w seen.
     let task = task_asked c.args.asked.now in
@@ -36,7 +33,6 @@ returns-in_default-reached-clause-given g c = λ w seen.
     let given = no_goal task owner_among states w seen.parts c.args.snapshot.lanes c.lowest_in-lowest.result seen.lanes least c.known_of-reached.result found c.in-Some.floor c.bound_of-bound.result c.args.snapshot.stop (cause_of c.args.snapshot.stop) some c.bound_of-bound.ensures seen.stop refl c.in_default-reached.is in
     subst (λ (ending : Ending). EndsWhole w ending) (sym c.without_plan.ensures) given
 
--- src/outcome.rt:115:13
 pub returns-in-Err-clause-lacking : goal.returns-in-Err-clause-lacking
 returns-in-Err-clause-lacking g c = λ w parts laned.
     let task = task_asked c.args.asked.now in
@@ -47,7 +43,6 @@ returns-in-Err-clause-lacking g c = λ w parts laned.
     let some : lesser c.lowest_in-lowest.result (cost_in c.known_of-reached.result) ≡ Some c.in-Some.floor = sym c.floor_of.ensures ∙ c.in-Some.is in
     no_memory task owner_among states w parts c.args.snapshot.lanes c.lowest_in-lowest.result laned least c.known_of-reached.result found c.in-Some.floor c.bound_of-bound.result c.in-Some-reached.known some c.bound_of-bound.ensures c.in-Some-reached.is
 
--- src/outcome.rt:123:9
 pub returns-in-Ok-clause-given : goal.returns-in-Ok-clause-given
 returns-in-Ok-clause-given g c = λ w seen.
     let task = task_asked c.args.asked.now in

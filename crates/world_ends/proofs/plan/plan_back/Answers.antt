@@ -10,13 +10,11 @@ use Rattle.world_ends.specs.Parts.{task_asked, states_of, HasParts}
 use Rattle.world_ends.proofs.PartLemmas.{before_is, differs, same_as, traced_more}
 use Rattle.world_ends.proofs.plan.plan_back.Goals as goal
 
--- src/plan.rt:52:13
 pub step_back-before-requires-clause-reached : goal.step_back-before-requires-clause-reached
 step_back-before-requires-clause-reached g c κs within =
     let now = c.boards.invariant in
     before_is (task_asked c.args.asked.now) (g.S.Spread.owner_of c.args.owners.now) (states_of c.args.workers.now) c.requires.world.0 c.requires.world.1 c.boards.board c.boards.here now.board now.found (differs c.boards.board c.args.asked.now.start (sym c.boards-test.true ∙ c.ne.ensures))
 
--- src/plan.rt:51:5
 pub boards-preserved : goal.boards-preserved
 boards-preserved g c =
     let task = task_asked c.args.asked.now in
@@ -38,7 +36,6 @@ boards-preserved g c =
       traced = λ w parts. subst (λ (ms : List Move). IsByLastMoves w before ms c.args.asked.now.goal) (sym more) (traced w parts);
     }
 
--- src/plan.rt:33:1
 pub returns : goal.returns
 returns g c =
     let now = c.boards.invariant in

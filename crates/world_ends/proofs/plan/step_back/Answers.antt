@@ -8,14 +8,12 @@ use Rattle.world_ends.specs.Parts.{task_asked, states_of, known_in}
 use Rattle.world_ends.proofs.PartLemmas.{stepped_back, some_is, found_before, known_by_answer}
 use Rattle.world_ends.proofs.plan.step_back.Goals as goal
 
--- src/plan.rt:82:18
 pub unwrap-before-requires : goal.unwrap-before-requires
 unwrap-before-requires g c =
     let has = c.requires.reached in
     let is : c.step.result ≡ Some (has.0, has.1) = stepped_back c.args.asked.now.weights c.args.board.now c.args.here.via c.undo.result c.step.result has.0 has.1 c.undo.ensures c.step.ensures.moves has.3.board.0 has.3.moves in
     rw is refl
 
--- src/plan.rt:83:9
 pub unwrap-there-requires : goal.unwrap-there-requires
 unwrap-there-requires g c =
     let has = c.requires.reached in

@@ -6,7 +6,6 @@ use Rattle.world_ends.specs.Parts.{task_asked}
 use Rattle.world_ends.proofs.RowLemmas.{AreRowsUpTo, read_at, row_left_out, row_added, all_rows_in}
 use Rattle.world_ends.proofs.rows.add_rows.Goals as goal
 
--- src/rows.rt:93:5
 pub boards-preserved : goal.boards-preserved
 boards-preserved c =
     let task = task_asked c.args.asked.now in
@@ -31,7 +30,6 @@ boards-preserved c =
     (row_left_out task k closed c.len-place-end.ensures.table old c.requires.elsewhere n c.boards.rows.items c.boards.invariant board known here high))
     (cases_lt (known.cost + task.sum board) k)
 
--- src/rows.rt:78:1
 pub returns-clause-each : goal.returns-clause-each
 returns-clause-each c =
     let task = task_asked c.args.asked.now in

@@ -10,7 +10,6 @@ use Rattle.world_ends.proofs.PartLemmas.{state_at}
 use Rattle.world_ends.proofs.RowLemmas.{AreRowsOfFirst, rows_of_one_more, rows_of_all, boards_are, rows_elsewhere}
 use Rattle.world_ends.proofs.rows.keyed_rows.Goals as goal
 
--- src/rows.rt:72:9
 pub add_rows-requires-clause-boards : goal.add_rows-requires-clause-boards
 add_rows-requires-clause-boards g c =
     let task = task_asked c.args.asked.now in
@@ -21,7 +20,6 @@ add_rows-requires-clause-boards g c =
     subst (λ (lists : SearchListsModel). IsOfBoards task.goal.grid lists.closed.known) (sym c.lists.ensures)
     (boards_are task c.requires.world.0 states c.requires.world.1 c.requires.world.2 c.workers.worker-index (state_of worker) at)
 
--- src/rows.rt:72:9
 pub add_rows-requires-clause-elsewhere : goal.add_rows-requires-clause-elsewhere
 add_rows-requires-clause-elsewhere g c =
     let task = task_asked c.args.asked.now in
@@ -32,7 +30,6 @@ add_rows-requires-clause-elsewhere g c =
     subst (λ (lists : SearchListsModel). AreElsewhere task.goal.grid c.workers.rows.items lists.closed.known) (sym c.lists.ensures)
     (rows_elsewhere task c.requires.world.0 states c.requires.world.1 c.requires.world.2 c.args.cost c.workers.worker-index (state_of worker) c.workers.rows.items at c.workers.invariant)
 
--- src/rows.rt:71:5
 pub workers-preserved : goal.workers-preserved
 workers-preserved g c =
     let task = task_asked c.args.asked.now in
@@ -45,7 +42,6 @@ workers-preserved g c =
     let each : (row : KeyedRow) → Contains more row ↔ (Contains rows row ⊎ IsRowIn task c.args.cost (state_of worker).known row) = subst (λ (lists : SearchListsModel). (row : KeyedRow) → Contains more row ↔ (Contains rows row ⊎ IsRowIn task c.args.cost lists.closed.known row)) c.lists.ensures c.in_ok-add_rows.ensures.each in
     rows_of_one_more task c.args.cost states c.workers.worker-index (state_of worker) rows more at c.workers.invariant c.in_ok-add_rows.ensures.apart each
 
--- src/rows.rt:58:1
 pub returns : goal.returns
 returns g c =
     let task = task_asked c.args.asked.now in

@@ -15,7 +15,6 @@ use Rattle.world_ends.specs.Rows.{AreBoardsOf}
 use Rattle.world_ends.proofs.RowLemmas.{boards_of_keys, rows_are_for}
 use Rattle.world_ends.proofs.rows.rows_for.Goals as goal
 
--- src/rows.rt:54:5
 pub with_boards-requires : goal.with_boards-requires
 with_boards-requires g c =
     let task = task_asked c.args.asked.now in
@@ -27,7 +26,6 @@ with_boards-requires g c =
     let here : All (λ (row : KeyedRow). (b : BoardModel) × HasKey task.goal.grid row.key b) c.deref.result.now = subst (All (λ (row : KeyedRow). (b : BoardModel) × HasKey task.goal.grid row.key b)) (sym after) all in
     subst (λ (grid : ShapeModel). All (λ (row : KeyedRow). (b : BoardModel) × HasKey grid row.key b) c.deref.result.now) (sym c.shape.ensures.value) here
 
--- src/rows.rt:36:1
 pub returns-clause-rows : goal.returns-clause-rows
 returns-clause-rows g c =
     let task = task_asked c.args.asked.now in

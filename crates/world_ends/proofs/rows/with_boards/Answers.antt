@@ -4,7 +4,6 @@ use Rattle.world_ends.specs.Rows.{AreBoardsOf}
 use Rattle.world_ends.proofs.RowLemmas.{board_named}
 use Rattle.world_ends.proofs.rows.with_boards.Goals as goal
 
--- src/rows.rt:136:5
 pub rows-preserved : goal.rows-preserved
 rows-preserved c =
     let within : c.rows.row-index < length c.args.rows.now = search rules in

@@ -2,7 +2,6 @@ use Rattle.std.proofs.Common.{◌≡◌, ◌∙◌, ap, None, replicate, take, �
 use Rattle.std.proofs.lemmas.List.{take-replicate}
 use Rattle.quiescence.proofs.book.Book.new.Goals as goal
 
--- src/book.rt:69:5
 pub returns : goal.returns
 returns g c =
     let full : c.from_array_in-floors.result.items ≡ replicate 16 None = c.from_array_in-floors.ensures.items in

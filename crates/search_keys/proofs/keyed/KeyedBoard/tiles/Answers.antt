@@ -13,7 +13,7 @@ count c = c.cells-number-end.ensures.value ∙ ap cell_count c.shape.ensures.val
 low : (c : goal.In-numbers) → c.numbers.number < cell_count c.args.self.now.grid
 low c = let all = count c in let next = c.numbers-test.true in omega (arith, all, next)
 
--- the number stands on this cell
+-- the number is on this cell
 there : (c : goal.In-numbers) → slice_index c.cells-cells.result c.numbers.number ≡ cell_of c.args.self.now c.numbers.number
 there c = c.cells-cells.ensures.cells c.numbers.number (low c)
 

@@ -2,7 +2,7 @@ use Rattle.std.proofs.Common.{ℕ, ◌≡◌, ◌<◌, length, slice_index}
 use Rattle.board.specs.Boards.{cell_of}
 use Rattle.search_keys.proofs.keyed.KeyedBoard.tiles.Given as goal
 
--- the first numbers stand on their cells
+-- the first numbers are on their cells
 abbrev pub invariant-numbers : goal.invariant-numbers
 invariant-numbers l = record {
   all : length l.tiles ≡ 25;

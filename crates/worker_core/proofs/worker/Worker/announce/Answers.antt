@@ -10,7 +10,6 @@ use Rattle.world_model.proofs.CreditLemmas.{announces}
 use Rattle.worker_core.specs.Workers.{state_of, with_book}
 use Rattle.worker_core.proofs.worker.Worker.announce.Goals as goal
 
--- src/book_steps.rt:37:5
 pub returns-clause-step : goal.returns-clause-step
 returns-clause-step g c = λ role is owner.
     let worker = state_of c.args.self.now in

@@ -4,7 +4,6 @@ use Rattle.worker_core.specs.Workers.{state_of, at_lane, packets_of}
 use Rattle.worker_core.proofs.GuideLemmas.{nothing, packet_at, packet_read, packet_back}
 use Rattle.worker_core.proofs.worker.Worker.send.Goals as goal
 
--- src/lane_steps.rt:29:13
 pub returns-then-is_empty-clause-step : goal.returns-then-is_empty-clause-step
 returns-then-is_empty-clause-step g c = λ before after lane.
     let xs = c.args.self.now.unsent.items in
@@ -13,7 +12,6 @@ returns-then-is_empty-clause-step g c = λ before after lane.
     let zero : length c.index.result.now.items ≡ 0 = search rules in
     inl (there ∙ nothing p zero, (refl, ap (at_lane (state_of c.args.self.now)) (lane.kept (g.L.LaneOut.reflexive c.args.lane.now))))
 
--- src/lane_steps.rt:32:13
 pub returns-then-amount-lt2-clause-step : goal.returns-then-amount-lt2-clause-step
 returns-then-amount-lt2-clause-step g c = λ before after lane.
     let xs = c.args.self.now.unsent.items in
@@ -24,7 +22,6 @@ returns-then-amount-lt2-clause-step g c = λ before after lane.
       inl (omega (arith, c.if-amount-lt2.true, c.amount.ensures), (refl, ap (at_lane (state_of c.args.self.now)) (lane.kept (g.L.LaneOut.reflexive c.args.lane.now)))),
     )
 
--- src/lane_steps.rt:39:13
 pub returns-in-Err-clause-step : goal.returns-in-Err-clause-step
 returns-in-Err-clause-step g c = λ before after lane.
     let xs = c.args.self.now.unsent.items in
@@ -44,7 +41,6 @@ returns-in-Err-clause-step g c = λ before after lane.
       ),
     )
 
--- src/lane_steps.rt:19:5
 pub returns-clause-step : goal.returns-clause-step
 returns-clause-step g c = λ before after lane.
     let xs = c.args.self.now.unsent.items in
