@@ -1,5 +1,6 @@
 use Rattle.std.proofs.Common.{◌≡◌, ℕ, List, None, Some, sym, ap, ◌∙◌, subst, ⊎_elim}
 use Rattle.world_model.specs.Costs.{lesser}
+use Rattle.world_model.specs.Outcomes.{cause_of}
 use Rattle.world_model.specs.Workers.{WorkerState}
 use Rattle.outcomes.specs.declared.outcome.Ending.{Ending}
 use Rattle.world_ends.specs.Parts.{task_asked, states_of, known_in}
