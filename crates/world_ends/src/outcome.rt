@@ -1,19 +1,28 @@
 //! The outcome of a run.
 
-ghost use Rattle.std.specs.Prelude.{◌≡◌, None, IfOk, IfErr, option_map};
+ghost use Rattle.std.specs.Prelude.{ℕ, ◌≡◌, ◌≢◌, ◌⊎◌, None, Some, IfOk, IfErr, option_map, max};
+ghost use Rattle.std.specs.Prelude.{slice_get};
+ghost use Rattle.lower_bound.specs.Bounds.{sum_of};
+ghost use Rattle.lower_bound.specs.Tables.{parts_of};
 ghost use Rattle.outcomes.specs.declared.outcome.Cause.TheVariants.{Memory};
 ghost use Rattle.outcomes.specs.declared.outcome.Want.TheVariants.{Refused};
-ghost use Rattle.outcomes.specs.declared.outcome.Outcome.TheVariants.{Bounded};
+ghost use Rattle.outcomes.specs.declared.outcome.Outcome.TheVariants as outcome;
+ghost use Rattle.outcomes.specs.declared.outcome.Ending.TheVariants.{Optimal, Bounded};
+ghost use Rattle.search_lists.specs.Orders.{Guide};
+ghost use Rattle.world_model.specs.Costs.{lesser};
+ghost use Rattle.world_model.specs.Workers.{WorkerState};
 ghost use Rattle.world_model.specs.Outcomes.{IsGiven, cause_of};
 ghost use Rattle.world_model.specs.Worlds.{WorldState};
 ghost use Rattle.world_ends.specs.Parts.{task_asked, states_of, AreOfWorld, HasParts, IsSeen};
-ghost use Rattle.world_ends.specs.Lowest.{IsLowestInLanes};
+ghost use Rattle.world_ends.specs.Parts.{AreWorkersGuided};
+ghost use Rattle.world_ends.specs.Lowest.{IsLowestInLanes, IsLeastBeside, IsOfWorkers, HasItemsOn};
 ghost use Rattle.world_ends.specs.Endings.{EndsIn, EndsWhole, HasPlanAbove};
 
 use crate::asked::{Asked, Snapshot};
 use crate::lowest::{lesser, lowest_of_workers};
 use crate::plan::{known_of, plan_back};
 use crate::rows::rows_for;
+use board::Move;
 use memory::OutOfMemory;
 use message_ledger::Counting;
 use outcomes::{Cause, Ending, Outcome, Want, Why};
@@ -60,7 +69,7 @@ pub(crate) fn outcome_of<C: Counting, S: Spread>(
 
 // The bound for whose plan or rows memory was refused.
 fn bound_alone(bound: u32, refused: OutOfMemory) -> Outcome
-    ensures { result ≡ Bounded bound None (Memory (Refused refused)) None }
+    ensures { result ≡ outcome.Bounded bound None (Memory (Refused refused)) None }
 {
     Outcome::Bounded {
         bound,
@@ -118,37 +127,82 @@ fn whole_ending<C: Counting, S: Spread>(
         → IsLowestInLanes w snapshot.lanes → HasPlanAbove w lacking.bound) }
     ensures same { states_of workers.new ≡ states_of workers.old }
 {
-    let lowest = lowest_of_workers(asked, workers, snapshot.lanes);
+    let lowest = lowest_in(asked, workers, snapshot);
     let reached = known_of(owners, workers, &asked.goal);
-    let Some(floor) = lesser(lowest, cost_of(reached)) else {
+    let Some(floor) = floor_of(lowest, reached) else {
         return Ok(Ending::Unsolvable {
             why: Why::Exhausted,
         });
     };
-    let bound = asked.bound.of(&asked.start).max(floor);
-    let cause = cause_of(snapshot.stop);
+    let bound = bound_of(asked, floor);
     let Some(known) = reached else {
-        return Ok(Ending::Bounded {
-            bound,
-            best: None,
-            cause,
-        });
+        return Ok(without_plan(bound, snapshot.stop));
     };
-    let found = match plan_back(alloc, asked, owners, workers, known) {
-        Ok(found) => found,
-        Err(refused) => return Err(PlanLacking { bound, refused }),
-    };
+    match plan_back(alloc, asked, owners, workers, known) {
+        Ok(found) => Ok(with_plan(bound, snapshot.stop, found)),
+        Err(refused) => Err(PlanLacking { bound, refused }),
+    }
+}
+
+// The lowest cost plus sum of what the workers and the lanes have.
+fn lowest_in<C: Counting>(
+    asked: &Asked<'_>,
+    workers: &mut [Worker<C>],
+    snapshot: Snapshot,
+) -> Option<u32>
+    requires items { (i : ℕ) (worker : WorkerState) → slice_get (states_of workers.old) i ≡ Some worker
+        → HasItemsOn asked.now.bound.now.split.grid worker }
+    ensures least { (guide : Guide) → AreWorkersGuided (task_asked asked.now) guide workers.old
+        → IsLeastBeside (IsOfWorkers (task_asked asked.now) (states_of workers.old)) snapshot.lanes
+        result }
+    ensures same { states_of workers.new ≡ states_of workers.old }
+{
+    lowest_of_workers(asked, workers, snapshot.lanes)
+}
+
+// The lesser of the lowest cost plus sum and of the cost at which the goal is known.
+fn floor_of(lowest: Option<u32>, reached: Option<Known>) -> Option<u32>
+    ensures { result ≡ lesser lowest (option_map (λ known. known.cost) reached) }
+{
+    lesser(lowest, cost_of(reached))
+}
+
+// The bound that a floor and the start's sum give.
+fn bound_of(asked: &Asked<'_>, floor: u32) -> u32
+    requires { asked.now.start.grid ≡ asked.now.bound.now.split.grid }
+    ensures { result ≡ max (sum_of (parts_of asked.now.bound.now) asked.now.start) floor }
+{
+    asked.bound.of(&asked.start).max(floor)
+}
+
+// The ending of a run that knows no plan.
+fn without_plan(bound: u32, stop: Option<Stop>) -> Ending
+    ensures { result ≡ Bounded bound None (cause_of stop) }
+{
+    let cause = cause_of(stop);
+    Ending::Bounded {
+        bound,
+        best: None,
+        cause,
+    }
+}
+
+// The ending of a run that knows a plan: it is optimal where its cost is the bound.
+fn with_plan(bound: u32, stop: Option<Stop>, found: (u32, Vec<Move>)) -> Ending
+    ensures { ((found.0 ≡ bound) × (result ≡ Optimal found.0 found.1))
+        ⊎ ((found.0 ≢ bound) × (result ≡ Bounded bound (Some found) (cause_of stop))) }
+{
     if found.0 != bound {
-        return Ok(Ending::Bounded {
+        return Ending::Bounded {
             bound,
             best: Some(found),
-            cause,
-        });
+            cause: cause_of(stop),
+        };
     }
-    Ok(Ending::Optimal {
+    Ending::Optimal {
         cost: found.0,
         plan: found.1,
-    })
+    }
 }
 
 // The cost at which a board is known, where it is.
