@@ -1,4 +1,4 @@
-use Rattle.std.proofs.Common.{◌≡◌, ℕ, List, None, Some, sym, ap, ◌∙◌, subst, ⊎_elim}
+use Rattle.std.proofs.Common.{◌≡◌, ℕ, List, None, Some, refl, sym, ap, ◌∙◌, subst, ⊎_elim}
 use Rattle.world_model.specs.Costs.{lesser}
 use Rattle.world_model.specs.Outcomes.{cause_of}
 use Rattle.world_model.specs.Workers.{WorkerState}
