@@ -50,42 +50,23 @@ fn at(table: &Closed, place: usize) -> Option<(u128, u32)> {
     Some((found.0, found.1.cost))
 }
 
-// The cost and the last move of a board that is met again and again, and the answers. It is closed
-// each time.
-static MEETINGS: [(u32, Move, char); 4] = [
-    (5, Move::U, 'N'),
-    (5, Move::L, 'K'),
-    (4, Move::L, 'L'),
-    (6, Move::U, 'K'),
-];
-
-// The board with the key 7 is met and answered, and closed.
-fn expect_met(
-    rt: &(impl Abort + AllocGlobal),
-    table: &mut Closed,
-    cost: u32,
-    via: Move,
-    answer: char,
-) {
-    assert!(rt; meet(rt.alloc(), table, 7, cost, via) == Some((answer, 0)));
-    let known = table.get(7).expect(rt, "known");
-    assert!(rt; known.expanded == (answer == 'K'));
-    assert!(rt; close(table, 7) == Some(cost.min(known.cost)));
-}
-
-// The board is met again and again, and is known at its least cost then.
-fn expect_meetings(rt: &(impl Abort + AllocGlobal), table: &mut Closed) {
-    for (cost, via, answer) in &MEETINGS {
-        expect_met(rt, table, *cost, *via, *answer);
-    }
-    let known = table.get(7).expect(rt, "known");
-    assert!(rt; known.cost == 4 && known.via == Move::L);
-}
-
 #[test]
 fn a_board_that_is_met_again(rt: HostRuntime) {
     let mut table = Closed::new(rt.alloc());
-    expect_meetings(&rt, &mut table);
+    // The cost and the last move, and the answer; the board is closed each time.
+    for (cost, via, answer) in [
+        (5, Move::U, 'N'),
+        (5, Move::L, 'K'),
+        (4, Move::L, 'L'),
+        (6, Move::U, 'K'),
+    ] {
+        assert!(rt; meet(rt.alloc(), &mut table, 7, cost, via) == Some((answer, 0)));
+        let known = table.get(7).expect(&rt, "known");
+        assert!(rt; known.expanded == (answer == 'K'));
+        assert!(rt; close(&mut table, 7) == Some(cost.min(known.cost)));
+    }
+    let known = table.get(7).expect(&rt, "known");
+    assert!(rt; known.cost == 4 && known.via == Move::L);
 }
 
 // The board at a place is closed; None where there is no such place.
@@ -111,42 +92,26 @@ fn are_closed(table: &Closed) -> Option<[bool; 3]> {
     ])
 }
 
-// Boards with three keys are met, and get places in that order.
-fn expect_places(rt: &(impl Abort + AllocGlobal), table: &mut Closed) {
-    for (key, place) in [(7, 0), (9, 1), (8, 2)] {
-        assert!(rt; meet(rt.alloc(), table, key, 5, Move::U) == Some(('N', place)));
-    }
-}
-
-// Places at which boards are closed, whether there is one, and which boards are closed after it.
-static CLOSURES: [(usize, bool, [bool; 3]); 4] = [
-    (1, true, [false, true, false]),
-    (3, false, [false, true, false]),
-    (0, true, [true, true, false]),
-    (0, true, [true, true, false]),
-];
-
-// The boards are closed as the rows say.
-fn expect_closures(rt: &impl Abort, table: &mut Closed) {
-    for (place, is_there, closed) in &CLOSURES {
-        assert!(rt; close_at(table, *place).is_some() == *is_there);
-        assert!(rt; are_closed(table) == Some(*closed));
-        assert!(rt; at(table, 1) == Some((9, 5)));
-    }
-}
-
-// One that is met at a lower cost is open again, at its place.
-fn expect_opened(rt: &(impl Abort + AllocGlobal), table: &mut Closed) {
-    assert!(rt; meet(rt.alloc(), table, 9, 4, Move::D) == Some(('L', 1)));
-    assert!(rt; is_closed(table, 9) == Some(false));
-}
-
 #[test]
 fn boards_that_are_closed_at_their_places(rt: HostRuntime) {
     let mut table = Closed::new(rt.alloc());
-    expect_places(&rt, &mut table);
-    expect_closures(&rt, &mut table);
-    expect_opened(&rt, &mut table);
+    for (key, place) in [(7, 0), (9, 1), (8, 2)] {
+        assert!(rt; meet(rt.alloc(), &mut table, key, 5, Move::U) == Some(('N', place)));
+    }
+    // The place, whether there is one, and which boards are closed after it.
+    for (place, is_there, closed) in [
+        (1, true, [false, true, false]),
+        (3, false, [false, true, false]),
+        (0, true, [true, true, false]),
+        (0, true, [true, true, false]),
+    ] {
+        assert!(rt; close_at(&mut table, place).is_some() == is_there);
+        assert!(rt; are_closed(&table) == Some(closed));
+        assert!(rt; at(&table, 1) == Some((9, 5)));
+    }
+    // One that is met at a lower cost is open again, at its place.
+    assert!(rt; meet(rt.alloc(), &mut table, 9, 4, Move::D) == Some(('L', 1)));
+    assert!(rt; is_closed(&table, 9) == Some(false));
 }
 
 // The next of a row of pseudo-random numbers (Marsaglia 2003).
@@ -238,45 +203,31 @@ fn wait(alloc: Global, open: &mut Open<u128>, f: u32, key: u128, g: u32) -> Opti
     open.lowest()
 }
 
-// The cost plus sum, the key and the cost of each entry, and the lowest after it.
-static WAITING: [(u32, u128, u32, u32); 4] = [
-    (7, 1, 3, 7),
-    (5, 2, 2, 5),
-    (5, 2, 2, 5),
-    (GREATEST_F, 3, 0, 5),
-];
-
-// The limit, the entry that is taken, and the lowest after it.
-static TAKEN: [(u32, Option<(u128, u32)>, Option<u32>); 8] = [
-    (5, None, Some(5)),
-    (6, Some((2, 2)), Some(5)),
-    (6, Some((2, 2)), Some(7)),
-    (6, None, Some(7)),
-    (8, Some((1, 3)), Some(GREATEST_F)),
-    (GREATEST_F, None, Some(GREATEST_F)),
-    (u32::MAX, Some((3, 0)), None),
-    (u32::MAX, None, None),
-];
-
-// The entries are put in.
-fn expect_waiting(rt: &(impl Abort + AllocGlobal), open: &mut Open<u128>) {
-    for (f, key, g, lowest) in &WAITING {
-        assert!(rt; wait(rt.alloc(), open, *f, *key, *g) == Some(*lowest));
-    }
-}
-
-// The lowest entry below each limit is taken.
-fn expect_taken(rt: &impl Abort, open: &mut Open<u128>) {
-    for (below, entry, lowest) in &TAKEN {
-        assert!(rt; open.peek_lowest(*below) == *entry, "below {below}");
-        assert!(rt; open.take_lowest(*below) == *entry, "below {below}");
-        assert!(rt; open.lowest() == *lowest, "below {below}");
-    }
-}
-
 #[test]
 fn the_lowest_is_taken(rt: HostRuntime) {
     let mut open = Open::new(rt.alloc());
-    expect_waiting(&rt, &mut open);
-    expect_taken(&rt, &mut open);
+    // The cost plus sum, the key and the cost of each entry, and the lowest after it.
+    for (f, key, g, lowest) in [
+        (7, 1, 3, 7),
+        (5, 2, 2, 5),
+        (5, 2, 2, 5),
+        (GREATEST_F, 3, 0, 5),
+    ] {
+        assert!(rt; wait(rt.alloc(), &mut open, f, key, g) == Some(lowest));
+    }
+    // The limit, the entry that is taken, and the lowest after it.
+    for (below, entry, lowest) in [
+        (5, None, Some(5)),
+        (6, Some((2, 2)), Some(5)),
+        (6, Some((2, 2)), Some(7)),
+        (6, None, Some(7)),
+        (8, Some((1, 3)), Some(GREATEST_F)),
+        (GREATEST_F, None, Some(GREATEST_F)),
+        (u32::MAX, Some((3, 0)), None),
+        (u32::MAX, None, None),
+    ] {
+        assert!(rt; open.peek_lowest(below) == entry, "below {below}");
+        assert!(rt; open.take_lowest(below) == entry, "below {below}");
+        assert!(rt; open.lowest() == lowest, "below {below}");
+    }
 }

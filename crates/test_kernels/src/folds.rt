@@ -9,12 +9,12 @@ use pattern_index::Group;
 use std::process::Abort;
 
 // Boards of 2 by 2 with tile 1 on cells 0, 1, 2 and 3.
-static TILE_ONE_ON: [[u8; 4]; 4] = [[1, 0, 2, 3], [0, 1, 2, 3], [0, 2, 1, 3], [0, 2, 3, 1]];
+const TILE_ONE_ON: [[u8; 4]; 4] = [[1, 0, 2, 3], [0, 1, 2, 3], [0, 2, 1, 3], [0, 2, 3, 1]];
 
 // Values of tile 1 on 2 by 2 by rank, and the least ones by the tile's cell. The blank is on cell 0
 // in the first three, with the tile on 1, 2, 3; on cell 1 in the next three, with the tile on 0, 2,
 // 3; and so on.
-static FOLDS: [([u16; 12], [u16; 4]); 4] = [
+const FOLDS: [([u16; 12], [u16; 4]); 4] = [
     // The built ones at unit cost.
     ([0, 2, 1, 1, 2, 1, 1, 0, 1, 1, 0, 2], [1, 0, 2, 1]),
     // The blank is on cells 2, 3, 0 and 2 in the least ones.
@@ -53,27 +53,17 @@ fn stored_fold(rt: &(impl Abort + AllocGlobal), group: &Group, values: &[u16]) -
     fold(rt.alloc(), table).expect(rt, "memory")
 }
 
-// Compares the values of tile 1, by its cell, with the least ones.
-fn expect_least(rt: &impl Abort, row: usize, folded: &Folded, least: &[u16; 4]) {
-    let shape = shape_of(rt, 2, 2);
-    for (tiles, value) in TILE_ONE_ON.iter().zip(least) {
-        let board = board_of(rt, shape, tiles);
-        assert!(rt; has_value(folded, &board, *value), "row {row}, {tiles:?}");
-    }
-}
-
-// Compares the folded table of stored values of tile 1 with the least ones.
-fn expect_fold(rt: &(impl Abort + AllocGlobal), row: usize, values: &[u16; 12], least: &[u16; 4]) {
-    let group = group_of(rt, shape_of(rt, 2, 2), &[1]);
-    let folded = stored_fold(rt, &group, values);
-    assert!(rt; folded.size() == 4 && *folded.group() == group, "row {row}");
-    expect_least(rt, row, &folded, least);
-}
-
 #[test]
 fn folds_of_stored_values(rt: HostRuntime) {
+    let shape = shape_of(&rt, 2, 2);
+    let group = group_of(&rt, shape, &[1]);
     for (row, (values, least)) in FOLDS.iter().enumerate() {
-        expect_fold(&rt, row, values, least);
+        let folded = stored_fold(&rt, &group, values);
+        assert!(rt; folded.size() == 4 && *folded.group() == group, "row {row}");
+        for (tiles, value) in TILE_ONE_ON.iter().zip(least) {
+            let board = board_of(&rt, shape, tiles);
+            assert!(rt; has_value(&folded, &board, *value), "row {row}, {tiles:?}");
+        }
     }
 }
 
