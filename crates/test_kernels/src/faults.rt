@@ -2,7 +2,7 @@
 
 ghost use Rattle.std.specs.Prelude.{◌≡◌, All};
 
-use crate::fixtures::{group_of, shape_of};
+use crate::fixtures::{groups_of, shape_of};
 use board::Shape;
 use database_build::Table;
 use lower_bound::{Bound, PatternFault};
@@ -22,7 +22,7 @@ struct Asked {
 // One group more than a partition may have.
 const TOO_MANY: [&[u8]; 25] = [&[1]; 25];
 
-const ASKED: [Asked; 11] = [
+static ASKED: [Asked; 11] = [
     Asked {
         side: 4,
         numbers: &[],
@@ -103,17 +103,6 @@ const ASKED: [Asked; 11] = [
         code: "E11",
     },
 ];
-
-// The groups of these tiles.
-fn groups_of(rt: &(impl Abort + AllocGlobal), shape: Shape, lists: &[&[u8]]) -> Vec<Group>
-    ensures { All (λ g. g.grid ≡ shape) result.items }
-{
-    let mut groups = Vec::new(rt.alloc());
-    'groups: for tiles in lists {
-        groups.push(group_of(rt, shape, tiles)).expect(rt, "memory");
-    }
-    groups
-}
 
 // This many zeros.
 fn zeros(rt: &(impl Abort + AllocGlobal), count: usize) -> Vec<u16> {

@@ -1,6 +1,6 @@
 //! Shapes, boards, groups and lists that tests are about.
 
-ghost use Rattle.std.specs.Prelude.{◌≡◌};
+ghost use Rattle.std.specs.Prelude.{◌≡◌, All};
 
 use board::{Board, Shape};
 use pattern_index::{Group, Partition};
@@ -23,6 +23,17 @@ pub fn group_of(rt: &impl Abort, shape: Shape, tiles: &[u8]) -> Group
     ensures { result.grid ≡ shape }
 {
     Group::new(shape, tiles).expect(rt, "a group")
+}
+
+/// The groups of these tiles.
+pub fn groups_of(rt: &(impl Abort + AllocGlobal), shape: Shape, lists: &[&[u8]]) -> Vec<Group>
+    ensures { All (λ g. g.grid ≡ shape) result.items }
+{
+    let mut groups = Vec::new(rt.alloc());
+    'groups: for tiles in lists {
+        groups.push(group_of(rt, shape, tiles)).expect(rt, "memory");
+    }
+    groups
 }
 
 /// A list of these values.

@@ -2,7 +2,7 @@
 
 ghost use Rattle.std.specs.Prelude.{◌≡◌};
 
-use crate::fixtures::{board_of, group_of, shape_of};
+use crate::fixtures::{board_of, groups_of, shape_of};
 use board::{Board, Move, Shape, Weights};
 use database_build::{NO_VALUE, build};
 use lower_bound::{Bound, is_potential};
@@ -16,13 +16,7 @@ use test_support::least_costs;
 fn partition_of(rt: &(impl Abort + AllocGlobal), shape: Shape, tiles: &[&[u8]]) -> Partition
     ensures { result.grid ≡ shape }
 {
-    let mut groups = Vec::new(rt.alloc());
-    'groups: for numbers in tiles {
-        groups
-            .push(group_of(rt, shape, numbers))
-            .expect(rt, "memory");
-    }
-    Partition::new(shape, groups).expect(rt, "a partition")
+    Partition::new(shape, groups_of(rt, shape, tiles)).expect(rt, "a partition")
 }
 
 // The bound of the groups of these tiles, by built tables.
@@ -52,16 +46,30 @@ pub(crate) const HARDEST: [u8; 9] = [8, 0, 6, 5, 4, 7, 2, 3, 1];
 // A group for each of the tiles 1 to 8.
 pub(crate) const SINGLES: [&[u8]; 8] = [&[1], &[2], &[3], &[4], &[5], &[6], &[7], &[8]];
 
+// The sums of a board and of the goal by a table of each tile.
+fn sums_by_singles(
+    rt: &(impl Abort + AllocGlobal),
+    goal: &Board,
+    start: &Board,
+    weights: &Weights,
+) -> (u32, u32)
+    requires start { start.now.grid ≡ goal.now.grid }
+    requires weights { weights.now.grid ≡ goal.now.grid }
+{
+    let bound = bound_of(rt, goal, weights, &SINGLES);
+    (bound.of(start), bound.of(goal))
+}
+
 // A group for each tile: the sums are the taxicab distances, plain and times the tiles' numbers.
 #[test]
 fn the_hardest_board_of_three_by_three(rt: HostRuntime) {
     let shape = shape_of(&rt, 3, 3);
     let goal = Board::goal(shape);
     let start = board_of(&rt, shape, &HARDEST);
-    for (weights, sum) in [(Weights::unit(shape), 21), (Weights::face(shape), 97)] {
-        let bound = bound_of(&rt, &goal, &weights, &SINGLES);
-        assert!(rt; bound.of(&start) == sum && bound.of(&goal) == 0);
-    }
+    let sums = sums_by_singles(&rt, &goal, &start, &Weights::unit(shape));
+    assert!(rt; sums == (21, 0));
+    let sums = sums_by_singles(&rt, &goal, &start, &Weights::face(shape));
+    assert!(rt; sums == (97, 0));
 }
 
 // A successor of the hardest board: the tile that moves, the tiles then, and their sum.
@@ -78,26 +86,43 @@ fn is_worked(rt: &impl Abort, successor: &Successor, worked: &WorkedSuccessor) -
         && successor.sum == *sum
 }
 
-// The blank can't go up. To the left and to the right a tile comes one cell nearer to its own, and
-// below tile 4 leaves its own.
+// The sum of a board at unit cost, and its successors, by a table of each tile.
+fn sum_and_successors(
+    rt: &(impl Abort + AllocGlobal),
+    start: &Board,
+    unpacked: &UnpackedBoard,
+) -> (u32, [Option<Successor>; 4])
+    requires { unpacked.now ≡ start.now }
+{
+    let shape = start.shape();
+    let weights = Weights::unit(shape);
+    let bound = bound_of(rt, &Board::goal(shape), &weights, &SINGLES);
+    (
+        bound.sum_at(&cells_of(start)),
+        unpacked.successors(&weights, &bound),
+    )
+}
+
+// The blank goes to the left, to the right and down. A tile comes one cell nearer to its own in the
+// first two. Tile 4 leaves its own in the last.
+static SUCCESSORS: [WorkedSuccessor; 3] = [
+    (8, [0, 8, 6, 5, 4, 7, 2, 3, 1], 20),
+    (6, [8, 6, 0, 5, 4, 7, 2, 3, 1], 20),
+    (4, [8, 4, 6, 5, 0, 7, 2, 3, 1], 22),
+];
+
+// The blank can't go up.
 #[test]
 fn successors_of_the_hardest_board(rt: HostRuntime) {
-    let shape = shape_of(&rt, 3, 3);
-    let weights = Weights::unit(shape);
-    let bound = bound_of(&rt, &Board::goal(shape), &weights, &SINGLES);
-    let start = board_of(&rt, shape, &HARDEST);
+    let start = board_of(&rt, shape_of(&rt, 3, 3), &HARDEST);
     let unpacked = UnpackedBoard::new(&start);
-    assert!(rt; bound.sum_at(&cells_of(&start)) == 21);
-    let [up, left, right, down] = unpacked.successors(&weights, &bound);
-    assert!(rt; up.is_none());
     assert!(rt; unpacked.blank() == 1);
-    for (told, worked) in [
-        (left, (8, [0, 8, 6, 5, 4, 7, 2, 3, 1], 20)),
-        (right, (6, [8, 6, 0, 5, 4, 7, 2, 3, 1], 20)),
-        (down, (4, [8, 4, 6, 5, 0, 7, 2, 3, 1], 22)),
-    ] {
+    let (sum, [up, left, right, down]) = sum_and_successors(&rt, &start, &unpacked);
+    assert!(rt; sum == 21);
+    assert!(rt; up.is_none());
+    for (told, worked) in [left, right, down].iter().zip(&SUCCESSORS) {
         let successor = told.expect(&rt, "the blank stays on the board");
-        assert!(rt; is_worked(&rt, &successor, &worked));
+        assert!(rt; is_worked(&rt, &successor, worked));
     }
 }
 
@@ -201,20 +226,25 @@ fn has_keyed_sums(bound: &Bound, goal: &Board) -> bool {
 }
 
 // Shapes with groups of their tiles. The table of the first is kept by rank.
-const KEYED: [(u8, u8, &[&[u8]]); 4] = [
+static KEYED: [(u8, u8, &[&[u8]]); 4] = [
     (3, 3, &[&[1, 2, 3, 4, 5, 6, 7, 8]]),
     (3, 3, &[&[1, 2, 3, 4], &[5, 6, 7, 8]]),
     (3, 4, &[&[1, 3, 5], &[2, 4, 7]]),
     (4, 5, &[&[1, 2], &[18, 19]]),
 ];
 
+// Whether the boards of a walk have their sums by built tables, and by these tables folded.
+fn have_keyed_sums(rt: &(impl Abort + AllocGlobal), goal: &Board, tiles: &[&[u8]]) -> (bool, bool) {
+    let bound = bound_of(rt, goal, &Weights::face(goal.shape()), tiles);
+    let by_tables = has_keyed_sums(&bound, goal);
+    let folded = bound.folded(rt.alloc()).expect(rt, "memory");
+    (by_tables, has_keyed_sums(&folded, goal))
+}
+
 #[test]
 fn sums_by_search_keys(rt: HostRuntime) {
-    for (rows, cols, tiles) in KEYED {
-        let goal = Board::goal(shape_of(&rt, rows, cols));
-        let bound = bound_of(&rt, &goal, &Weights::face(goal.shape()), tiles);
-        assert!(rt; has_keyed_sums(&bound, &goal));
-        let folded = bound.folded(rt.alloc()).expect(&rt, "memory");
-        assert!(rt; has_keyed_sums(&folded, &goal));
+    for (rows, cols, tiles) in &KEYED {
+        let goal = Board::goal(shape_of(&rt, *rows, *cols));
+        assert!(rt; have_keyed_sums(&rt, &goal, tiles) == (true, true));
     }
 }

@@ -14,6 +14,7 @@ use owners::{ByBlank, Spread, Zobrist};
 use quiescence::Book;
 use search_keys::KeyedBoard;
 use std::marker::Brand;
+use std::process::Abort;
 use std::sync::ledger::{Blank, Ledger};
 use world_model::{HaltCause, Item, Stop};
 
@@ -22,7 +23,7 @@ const LIMIT: u64 = 300;
 const WORKERS: usize = 2;
 
 // A run that ends quietly, and is asked on.
-const QUIET: [Row; 20] = [
+static QUIET: [Row; 20] = [
     (1, Call::Draw, "Q2", 1, 0),
     (0, Call::Draw, "ok", 65, 65),
     (0, Call::Send, "ok", 65, 64),
@@ -46,7 +47,7 @@ const QUIET: [Row; 20] = [
 ];
 
 // A run that is halted once all is granted.
-const HALTED: [Row; 6] = [
+static HALTED: [Row; 6] = [
     (0, Call::Grant, "256", 1, 1),
     (0, Call::Grant, "44", 1, 1),
     (1, Call::HaltByLimit, "ok", 1, 0),
@@ -206,7 +207,7 @@ fn amounts_and_best_costs(rt: HostRuntime) {
 // its blank. The hashes were computed by another program, from the words of SplitMix64.
 type OwnerRow = (u8, u8, &'static [u8], [usize; 4], [usize; 4]);
 
-const OWNERS: [OwnerRow; 4] = [
+static OWNERS: [OwnerRow; 4] = [
     (2, 2, &[3, 2, 1, 0], [0, 2, 1, 6], [1, 0, 3, 3]),
     (2, 3, &[2, 3, 5, 0, 1, 4], [1, 2, 1, 9], [1, 0, 3, 3]),
     (
@@ -249,16 +250,20 @@ fn owners_by_key<S: Spread>(spread: &S, board: &Board) -> [usize; 4] {
     ]
 }
 
+// Compares the owners of a board, of the board itself and by its search key, with these.
+fn expect_owners<S: Spread>(rt: &impl Abort, spread: &S, board: &Board, owners: &[usize; 4]) {
+    assert_eq!(rt; owners_of(spread, board), *owners);
+    assert_eq!(rt; owners_by_key(spread, board), *owners);
+}
+
 #[test]
 fn owners_of_boards(rt: HostRuntime) {
     for (rows, cols, tiles, by_hash, by_blank) in &OWNERS {
         let shape = shape_of(&rt, *rows, *cols);
         let board = board_of(&rt, shape, tiles);
         let zobrist = Zobrist::new(shape);
-        assert_eq!(rt; owners_of(&zobrist, &board), *by_hash);
-        assert_eq!(rt; owners_of(&ByBlank, &board), *by_blank);
-        assert_eq!(rt; owners_by_key(&zobrist, &board), *by_hash);
-        assert_eq!(rt; owners_by_key(&ByBlank, &board), *by_blank);
+        expect_owners(&rt, &zobrist, &board, by_hash);
+        expect_owners(&rt, &ByBlank, &board, by_blank);
         // Owners by the hash need that of the board before, those by the blank need none.
         let keyed = KeyedBoard::new(&board);
         assert!(rt; zobrist.hash(&keyed).is_some());

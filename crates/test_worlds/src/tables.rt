@@ -37,10 +37,16 @@ fn groups_of(alloc: Global, shape: Shape, lists: &[&[u8]]) -> Option<Vec<Group>>
 {
     let mut groups = Vec::new(alloc);
     'groups: for tiles in lists {
-        let group = Group::new(shape, tiles).ok()?;
-        groups.push(group).ok()?;
+        groups.push(group_of(shape, tiles)?).ok()?;
     }
     Some(groups)
+}
+
+// The group of these tiles.
+fn group_of(shape: Shape, tiles: &[u8]) -> Option<Group>
+    ensures { IfSome result (λ g. g.grid ≡ shape) }
+{
+    Group::new(shape, tiles).ok()
 }
 
 // The table of the group of these tiles.
