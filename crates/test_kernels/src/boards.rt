@@ -164,7 +164,7 @@ fn each_call_of_shapes_and_moves(rt: HostRuntime) {
     assert!(rt; Move::from_letter(b'r') == None);
 }
 
-// The same of a board; and a plan whose second move leaves it, at place 1.
+// The same for a board. The second move of the plan, at place 1, leaves the board.
 #[test]
 fn each_call_once(rt: HostRuntime) {
     let shape = shape_of(&rt, 2, 3);

@@ -27,7 +27,7 @@ pub enum Call {
     HaltByStart,
 }
 
-/// A call by worker 0 or 1, what it is answered, and the credit and the caller's purse then.
+/// A call by worker 0 or 1, its answer, and the credit and the caller's purse after it.
 pub type Row = (usize, Call, &'static str, u64, u64);
 
 // An item goes from one purse's worker to the other's.
@@ -60,7 +60,7 @@ fn word(answer: Result<(), BookFault>) -> &'static str {
     }
 }
 
-// What is left is spent.
+// Spends what is left.
 fn spend_all<C: Counting>(allowance: &mut Allowance<C>)
     ensures granted { allowance.new.granted ≡ allowance.old.granted }
     ensures left { allowance.new.left ≡ 0 }
@@ -70,7 +70,7 @@ fn spend_all<C: Counting>(allowance: &mut Allowance<C>)
     }
 }
 
-/// Makes a call, and tells how it is answered.
+/// Makes a call. The answer is written as in a row.
 pub fn make<C: Counting>(
     book: &mut Book<C>,
     worker: usize,

@@ -1,4 +1,5 @@
-//! What the open list and the known boards answer, beside rows that are known and an ordered map.
+//! Answers of the open list and of the known boards, compared with rows of a table and with an
+//! ordered map.
 
 use board::Move;
 use closed_table::{Closed, Relaxed};
@@ -11,7 +12,7 @@ use std::process::Abort;
 // hash 0, so they all hang in one chain.
 const COLLIDING: u128 = 0x2896_9101_C228_2353_2F07_EB1A_988D_4A1D;
 
-// Draws that are spread over all bits of a key.
+// The factor that repeats a draw in each 32 bits of a key.
 const SPREAD: u128 = 0x1_0000_0001_0000_0001_0000_0001;
 
 // An answer as a letter.
@@ -23,7 +24,7 @@ fn letter(answer: Relaxed) -> char {
     }
 }
 
-// A board is met; None where there is no memory for it.
+// Meets a board. None where memory is refused.
 fn meet(alloc: Global, table: &mut Closed, key: u128, cost: u32, via: Move) -> Option<(char, u32)> {
     let Ok(()) = table.reserve(alloc, 1) else {
         return None;
@@ -32,7 +33,7 @@ fn meet(alloc: Global, table: &mut Closed, key: u128, cost: u32, via: Move) -> O
     Some((letter(met.0), met.1))
 }
 
-// A board is closed; None where it is unknown.
+// Closes a board, and answers its cost. None where it is unknown.
 fn close(table: &mut Closed, key: u128) -> Option<u32> {
     let Some(known) = table.get(key) else {
         return None;
@@ -53,7 +54,7 @@ fn at(table: &Closed, place: usize) -> Option<(u128, u32)> {
 #[test]
 fn a_board_that_is_met_again(rt: HostRuntime) {
     let mut table = Closed::new(rt.alloc());
-    // The cost and the last move, and the answer; the board is closed each time.
+    // The cost, the last move and the answer. The board is closed after each.
     for (cost, via, answer) in [
         (5, Move::U, 'N'),
         (5, Move::L, 'K'),
@@ -69,7 +70,7 @@ fn a_board_that_is_met_again(rt: HostRuntime) {
     assert!(rt; known.cost == 4 && known.via == Move::L);
 }
 
-// The board at a place is closed; None where there is no such place.
+// Closes the board at a place. None where there is no such place.
 fn close_at(table: &mut Closed, place: usize) -> Option<()> {
     if place >= table.len() {
         return None;
@@ -109,7 +110,7 @@ fn boards_that_are_closed_at_their_places(rt: HostRuntime) {
         assert!(rt; are_closed(&table) == Some(closed));
         assert!(rt; at(&table, 1) == Some((9, 5)));
     }
-    // One that is met at a lower cost is open again, at its place.
+    // A board that is met at a lower cost is open again, at its place.
     assert!(rt; meet(rt.alloc(), &mut table, 9, 4, Move::D) == Some(('L', 1)));
     assert!(rt; is_closed(&table, 9) == Some(false));
 }
@@ -122,7 +123,7 @@ fn draw(state: u64) -> u64 {
     next ^ next.wrapping_shl(17)
 }
 
-// What the map would answer, which takes the cost where it is news.
+// What the map answers. It takes the cost of a new key, and a lower cost of a known one.
 fn meet_in_map(rt: &impl Abort, costs: &mut BTreeMap<u128, u32>, key: u128, cost: u32) -> char {
     let before = costs.get(&key).copied();
     if let Some(old) = before {
@@ -135,8 +136,8 @@ fn meet_in_map(rt: &impl Abort, costs: &mut BTreeMap<u128, u32>, key: u128, cost
     if before.is_none() { 'N' } else { 'L' }
 }
 
-// A board is met in the table and in the map, which have to answer alike; its key comes behind the
-// others where it is new.
+// Meets a board in the table and in the map, which have to answer alike. A new key comes behind the
+// others.
 fn meet_in_both(
     rt: &(impl Abort + AllocGlobal),
     table: &mut Closed,
@@ -154,7 +155,7 @@ fn meet_in_both(
     assert!(rt; order.get(place as usize).copied() == Some(key));
 }
 
-// Compares the table with the map, where keys stand in the order in which they came.
+// Compares the table with the map. The table keeps keys in the order in which they came.
 fn compare_with_map(rt: &impl Abort, table: &Closed, costs: &BTreeMap<u128, u32>, order: &[u128]) {
     for (place, key) in order.iter().enumerate() {
         let cost = costs.get(key).copied().expect(rt, "a key of the map");
@@ -164,7 +165,8 @@ fn compare_with_map(rt: &impl Abort, table: &Closed, costs: &BTreeMap<u128, u32>
     assert!(rt; table.len() == order.len());
 }
 
-// How many keys came of this many draws below a limit, times a factor.
+// Compares the table with the map after this many draws below a limit, times a factor. Answers how
+// many keys came.
 fn beside_a_map(rt: &(impl Abort + AllocGlobal), draws: u32, limit: u64, factor: u128) -> usize {
     let mut table = Closed::new(rt.alloc());
     let mut costs = BTreeMap::new(rt.alloc());
@@ -191,7 +193,7 @@ fn keys_beside_an_ordered_map(rt: HostRuntime) {
     }
 }
 
-// An entry waits; None where it may not, or there is no memory for it.
+// Adds an entry, and answers the lowest f. None where `f` is too great, or memory is refused.
 fn wait(alloc: Global, open: &mut Open<u128>, f: u32, key: u128, g: u32) -> Option<u32> {
     if f > GREATEST_F {
         return None;
@@ -206,7 +208,7 @@ fn wait(alloc: Global, open: &mut Open<u128>, f: u32, key: u128, g: u32) -> Opti
 #[test]
 fn the_lowest_is_taken(rt: HostRuntime) {
     let mut open = Open::new(rt.alloc());
-    // The cost plus sum, the key and the cost of each entry, and the lowest after it.
+    // The f, the key and the g of each entry, and the lowest f after it.
     for (f, key, g, lowest) in [
         (7, 1, 3, 7),
         (5, 2, 2, 5),
@@ -215,7 +217,7 @@ fn the_lowest_is_taken(rt: HostRuntime) {
     ] {
         assert!(rt; wait(rt.alloc(), &mut open, f, key, g) == Some(lowest));
     }
-    // The limit, the entry that is taken, and the lowest after it.
+    // The limit, the entry that is taken, and the lowest f after it.
     for (below, entry, lowest) in [
         (5, None, Some(5)),
         (6, Some((2, 2)), Some(5)),

@@ -9,8 +9,11 @@ use lower_bound::{Bound, PatternFault};
 use pattern_index::{Group, Partition};
 use std::process::Abort;
 
-// What is asked for: a group of these numbers, a partition of these groups, its bound without any
-// table, and a table of so many values of tile 1; and the code of the first fault.
+// What is asked for, and the code of the first fault. Asked for are:
+//
+// - a group of these numbers;
+// - a partition of these groups, and its bound without any table;
+// - a table of tile 1 with this many values.
 struct Asked {
     side: u8,
     numbers: &'static [u8],

@@ -1,4 +1,4 @@
-//! Shapes, boards, groups and lists that tests are about.
+//! Shapes, boards, groups and lists that tests use.
 
 ghost use Rattle.std.specs.Prelude.{◌≡◌, All};
 

@@ -1,4 +1,4 @@
-//! Search keys on long walks, beside the boards that these lead to.
+//! Search keys on long walks, compared with the boards that these lead to.
 
 ghost use Rattle.std.specs.Prelude.{◌≡◌};
 

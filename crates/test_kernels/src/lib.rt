@@ -1,8 +1,12 @@
-//! Tests of what searches are made of: boards (`board`, `search_keys`); groups, tables and sums
-//! (`pattern_index`, `database_build`, `lower_bound`, `successor_sums`); the open list and the known
-//! boards (`open_buckets`, `closed_table`); and what workers share (`message_ledger`, `incumbent`,
-//! `quiescence`, `owners`). What is expected was worked by hand, comes from another program, or is
-//! the answer of a breadth-first search or of an ordered map.
+//! Tests of what searches are made of:
+//!
+//! - boards (`board`, `search_keys`);
+//! - groups, tables and sums (`pattern_index`, `database_build`, `lower_bound`, `successor_sums`);
+//! - the open list and the known boards (`open_buckets`, `closed_table`);
+//! - what workers share (`message_ledger`, `incumbent`, `quiescence`, `owners`).
+//!
+//! What is expected was worked by hand, comes from another program, or is the answer of a
+//! breadth-first search or of an ordered map.
 #![tactic(auto)]
 
 #[cfg(test)]

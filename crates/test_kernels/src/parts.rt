@@ -11,7 +11,7 @@ use lower_bound::laws::moves_move_one_tile;
 use lower_bound::{Bound, Parts};
 use std::process::Abort;
 
-// The board after a move, and its values by those of the board before.
+// The board after a move, and its values, made of those of the board before.
 fn moved(
     bound: &Bound,
     before: &Board,
@@ -25,7 +25,7 @@ fn moved(
     requires parts { parts.now ≡ values_of (parts_of bound.now) before.now }
     ensures { IfSome result (λ moved. moved.0.grid ≡ before.now.grid) }
 {
-    // What holds of every board, and what a move leaves where it was, is told by these calls.
+    // The contracts of these calls say what holds of each board, and that a move moves one tile.
     let _ = before.shape();
     moves_move_one_tile();
     let (board, _) = before.step(direction, weights)?;
@@ -33,8 +33,8 @@ fn moved(
     Some((board, bound.parts_after(parts, &board, tile)))
 }
 
-// Whether the values of a board add up to a sum, those of the goal to 0, and those after each move
-// are the ones that are looked up anew.
+// Whether the values of a board add up to this sum, and those of the goal to 0. After each move,
+// the values have to add up to the sum of the values that are looked up anew.
 fn have_sum(bound: &Bound, goal: &Board, start: &Board, weights: &Weights, sum: u32) -> bool
     requires folded { bound.now.lookups ≡ [] }
     requires grid { goal.now.grid ≡ bound.now.split.grid }

@@ -30,7 +30,7 @@ pub(crate) fn bound_of(
     ensures { result.split.grid ≡ goal.now.grid }
 {
     let partition = partition_of(rt, goal.shape(), tiles);
-    // That the groups are of the goal's shape is told by this call.
+    // The contract of this call says that the groups are of the goal's shape.
     let _ = partition.shape();
     let mut tables = Vec::new(rt.alloc());
     for group in partition.groups() {
@@ -149,8 +149,8 @@ const PARTITIONS: [&[&[u8]]; 4] = [
     &[&[1, 2, 3, 4, 5]],
 ];
 
-// Whether the sum of a board is right beside its least cost. No sum is above the cost, that of a
-// group of all tiles is the cost itself, and only the goal's is 0.
+// Whether the sum of a board is right for its least cost. No sum is above the cost. The sum of a
+// group of all tiles is the cost itself. Only the goal's sum is 0.
 fn is_right(bound: &Bound, goal: &Board, start: &Board, cost: u32, is_whole: bool) -> bool
     requires { start.now.grid ≡ bound.now.split.grid }
 {
@@ -199,7 +199,7 @@ fn each_board_of_two_by_three(rt: HostRuntime) {
     }
 }
 
-// Whether the boards of a walk from the goal on have by their search keys the sums that they have.
+// Whether each board of a walk from the goal has the same sum by its search key.
 fn has_keyed_sums(bound: &Bound, goal: &Board) -> bool {
     let weights = Weights::unit(goal.shape());
     let mut board = *goal;

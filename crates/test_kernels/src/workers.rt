@@ -22,7 +22,7 @@ const LIMIT: u64 = 300;
 
 const WORKERS: usize = 2;
 
-// A run that ends quietly, and is asked on.
+// A run that ends quietly, and calls after its end.
 static QUIET: [Row; 20] = [
     (1, Call::Draw, "Q2", 1, 0),
     (0, Call::Draw, "ok", 65, 65),
@@ -159,14 +159,14 @@ fn amounts() -> (u64, u64, u64, u64) {
     )
 }
 
-// What best costs are answered, and the limit then.
+// Whether each announced cost is lower, the best cost, and its limit.
 fn best_costs(costs: [u32; 3]) -> ([bool; 3], Option<u32>, u32) {
     let mut best = Best::new();
     let lower = costs.map(|cost| best.announce(cost).is_ok());
     (lower, best.cost(), best.limit())
 }
 
-// What stops a run for which a list of steps says that memory is wanting, and its best cost.
+// What stops a run for which a list of steps says that memory ran out, and its best cost.
 fn stop_by_list() -> (Option<Stop>, Option<u32>) {
     let credit = Credit::plain().0;
     let mut book = Book::new(credit, Grants::<Plain>::plain(), LIMIT, WORKERS);
@@ -203,8 +203,8 @@ fn amounts_and_best_costs(rt: HostRuntime) {
     assert!(rt; stop_by_list() == (Some(Stop::Memory(Want::Stated)), Some(5)));
 }
 
-// The sides and the numbers of a board, and its owners of 2, 3, 7 and 16 workers by its hash and by
-// its blank. The hashes were computed by another program, from the words of SplitMix64.
+// The sides and the numbers of a board, and its owners among 2, 3, 7 and 16 workers by its hash and
+// by its blank. The hashes were computed by another program, from the words of SplitMix64.
 type OwnerRow = (u8, u8, &'static [u8], [usize; 4], [usize; 4]);
 
 static OWNERS: [OwnerRow; 4] = [
@@ -229,7 +229,7 @@ static OWNERS: [OwnerRow; 4] = [
     ),
 ];
 
-// The owners of a board of 2, 3, 7 and 16 workers.
+// The owners of a board among 2, 3, 7 and 16 workers.
 fn owners_of<S: Spread>(spread: &S, board: &Board) -> [usize; 4] {
     [
         spread.owner(board, 2),
@@ -239,7 +239,7 @@ fn owners_of<S: Spread>(spread: &S, board: &Board) -> [usize; 4] {
     ]
 }
 
-// The same, of the board by its search key.
+// The same by the board's search key.
 fn owners_by_key<S: Spread>(spread: &S, board: &Board) -> [usize; 4] {
     let keyed = KeyedBoard::new(board);
     [
@@ -250,7 +250,7 @@ fn owners_by_key<S: Spread>(spread: &S, board: &Board) -> [usize; 4] {
     ]
 }
 
-// Compares the owners of a board, of the board itself and by its search key, with these.
+// Compares the owners of a board, by the board itself and by its search key, with these.
 fn expect_owners<S: Spread>(rt: &impl Abort, spread: &S, board: &Board, owners: &[usize; 4]) {
     assert_eq!(rt; owners_of(spread, board), *owners);
     assert_eq!(rt; owners_by_key(spread, board), *owners);
@@ -264,7 +264,7 @@ fn owners_of_boards(rt: HostRuntime) {
         let zobrist = Zobrist::new(shape);
         expect_owners(&rt, &zobrist, &board, by_hash);
         expect_owners(&rt, &ByBlank, &board, by_blank);
-        // Owners by the hash need that of the board before, those by the blank need none.
+        // Owners by hash need the hash of the board before. Owners by the blank need none.
         let keyed = KeyedBoard::new(&board);
         assert!(rt; zobrist.hash(&keyed).is_some());
         assert!(rt; ByBlank.hash(&keyed).is_none());

@@ -1,3 +1,3 @@
--- What the worker of a trial is lent, and how it stands.
+-- What a worker is lent of its task, and owners that no hash gives.
 pub mod Jobs
 pub mod Rows

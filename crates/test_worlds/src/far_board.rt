@@ -11,7 +11,7 @@ pub const FAR_START: [u8; 9] = [8, 0, 6, 5, 4, 7, 2, 3, 1];
 /// The groups whose tables guide some of the runs.
 pub const FAR_GROUPS: [&[u8]; 2] = [&[1, 2, 3, 4], &[5, 6, 7, 8]];
 
-/// The way from the board to Korf's goal at unit cost, by at most this many expansions.
+/// The problem from the board to Korf's goal at unit cost, with at most this many expansions.
 pub fn far_problem(limit: u64) -> Option<Problem>
     ensures { IfSome result (λ problem. problem.weights.grid ≡ problem.goal.grid) }
 {

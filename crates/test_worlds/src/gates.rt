@@ -1,4 +1,4 @@
-//! Gates that count steps, and that slow a worker down.
+//! Gates that count expansions, or slow a worker down.
 
 use hda_run::{Gate, Kind};
 use std::hint::spin_loop;
@@ -11,7 +11,7 @@ pub struct Counter {
 }
 
 impl Counter {
-    /// Of a run that has expanded nothing.
+    /// The counter of a run that has expanded nothing.
     pub fn new() -> Self {
         Counter {
             expanded: AtomicU64::new(0),
@@ -32,7 +32,7 @@ impl Gate for Counter {
     }
 }
 
-/// Lets one worker spin so many turns after each of its steps.
+/// Lets one worker spin for this many turns after each of its steps.
 #[derive(Clone, Copy)]
 pub struct Delay {
     pub worker: usize,

@@ -1,7 +1,12 @@
-//! What programs share that try workers: steps of one worker, whose requirements are looked at
-//! before each step, which is left out where they are not met; tables for groups of tiles; and what
-//! workers in threads answer. A plan with rows, or a bound with rows, counts as found where the
-//! checker accepts its certificate.
+//! What programs that try workers share:
+//!
+//! - steps of one of two workers, where a step whose requirements are not met is left out;
+//! - tables for groups of tiles;
+//! - gates that count expansions, or slow a worker down;
+//! - what workers in threads answer.
+//!
+//! A plan with rows, or a bound with rows, counts as found where the checker accepts its
+//! certificate.
 #![tactic(auto)]
 
 mod far_board;

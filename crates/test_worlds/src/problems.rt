@@ -13,8 +13,7 @@ pub struct Problem {
     pub limit: u64,
 }
 
-/// What a worker is lent of its task: a goal, the weights, and the bound by which the search is
-/// led.
+/// What a worker is lent of its task: a goal, the weights, and the bound that guides the search.
 #[derive(Drop)]
 pub struct Job {
     pub goal: Board,

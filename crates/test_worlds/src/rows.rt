@@ -4,7 +4,8 @@ use board::Board;
 use owners::Spread;
 use search_keys::KeyedBoard;
 
-/// The worker in the middle owns the boards whose blank is in the last row, and worker 0 all others.
+/// The worker in the middle owns the boards whose blank is in the last row. Worker 0 owns all
+/// others.
 #[derive(Clone, Copy, Debug)]
 pub struct ByRow;
 

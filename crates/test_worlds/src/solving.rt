@@ -1,4 +1,4 @@
-//! What is answered by so many workers.
+//! What a team of workers answers.
 
 ghost use Rattle.lower_bound.specs.Tables.{ArePotentials};
 ghost use Rattle.hda_run.specs.Worlds.{IsWorkerCount};
@@ -19,7 +19,7 @@ use thread_parts::Search;
 use thread_runs::{run_by_threads, search_by_workers, solve};
 use world_ends::{WithRows, WithoutRows};
 
-/// What `solve` answers. The rows of a plan, and those of a bound, are looked at by the checker.
+/// What `solve` answers. The checker looks at the rows of a plan, and at those of a bound.
 pub fn answer_with_rows<R: Threads + Wait + Sync, G: Gate + Sync>(
     rt: &R,
     alloc: Global,
@@ -64,8 +64,8 @@ pub fn answer_without_rows<R: Threads + Wait + Sync, G: Gate + Sync>(
     }
 }
 
-/// What the team's threads answer, each of which has a worker; the rows are looked at by the checker.
-/// None where the world of the joined workers is not kept.
+/// What the team's threads answer, one for each worker. The checker looks at the rows. None where
+/// the world of the joined workers is not kept.
 pub fn answer_of_threads<R: Threads + Wait + Sync, G: Gate + Sync>(
     rt: &R,
     alloc: Global,
@@ -207,8 +207,8 @@ fn answer_of_fault(fault: WorldFault) -> Answer {
     }
 }
 
-// A bound, as far as it has rows with which the checker accepts its certificate; without rows only
-// where memory is its cause.
+// A bound, where the checker accepts its certificate with these rows. A bound without rows counts
+// only where memory is its cause.
 fn judge_bound(
     alloc: Global,
     problem: &Problem,
@@ -228,7 +228,7 @@ fn judge_bound(
     }
 }
 
-// An answer, as far as the checker accepts the certificate of what it claims.
+// An answer, where the checker accepts the certificate of its claim.
 fn judge(
     alloc: Global,
     problem: &Problem,

@@ -1,4 +1,4 @@
-//! The steps.
+//! The steps of one of two workers.
 
 ghost use Rattle.std.specs.Prelude.{◌≡◌, ◌<◌, IfSome};
 ghost use Rattle.test_worlds.specs.Jobs.{IsJobFit, IsGuidedToGoal, lent};
@@ -16,7 +16,7 @@ use world_model::{Item, Refusal};
 // How many workers there are.
 const WORKERS: usize = 2;
 
-/// One of two workers, which knows no board.
+/// One of two workers, which knows no board. None where memory is refused.
 pub fn hire<C: Counting>(
     alloc: Global,
     job: &Job,
@@ -34,7 +34,7 @@ pub fn hire<C: Counting>(
     Some(worker)
 }
 
-/// A board is met. None where it has other sides than the goal, or costs too much.
+/// Meets a board. None where it has other sides than the goal, or costs too much.
 pub fn meet<C: Counting>(
     alloc: Global,
     job: &Job,
@@ -56,7 +56,7 @@ pub fn meet<C: Counting>(
     Some(worker.meet(alloc, &context, item))
 }
 
-/// A board is expanded. None where there are not two workers, of whom this is one.
+/// Expands a board. None where there are not two workers, or `me` is not one of them.
 pub fn expand<C: Counting, S: Spread>(
     alloc: Global,
     job: &Job,
@@ -98,7 +98,7 @@ fn context_of<'a, S: Spread>(
     }
 }
 
-/// The last item that is held is taken in. None where this is not one of two workers.
+/// Settles the last item that is held. None where `me` is not one of two workers.
 pub fn settle<C: Counting, S: Spread>(
     alloc: Global,
     job: &Job,

@@ -1,4 +1,4 @@
-//! The tables by which the search is led.
+//! The tables that guide the search.
 
 ghost use Rattle.std.specs.Prelude.{◌≡◌, All, IfSome};
 ghost use Rattle.database_build.specs.Tables.{value_in, IsPotential};
@@ -10,8 +10,8 @@ use lower_bound::Bound;
 use pattern_index::{Group, Partition};
 use std::alloc::Global;
 
-/// The bound of these groups by their tables, or None where they make no partition, or find no
-/// memory.
+/// The bound of these groups by built tables. None where the groups make no partition, a table is
+/// no potential, or memory is refused.
 pub fn bound_of(alloc: Global, goal: &Board, weights: &Weights, lists: &[&[u8]]) -> Option<Bound>
     requires { weights.now.grid ≡ goal.now.grid }
     ensures sides { IfSome result (λ bound. bound.split.grid ≡ goal.now.grid) }

@@ -10,7 +10,7 @@ use Rattle.worker_core.specs.Roles.{AreTaskBoards, guide_of, task_of}
 use Rattle.std.specs.FinMap as map
 use Rattle.test_worlds.proofs.steps.hire.Goals as goal
 
--- Lists with no board, and the lists of a worker that met one.
+-- Lists with no board are in order by each guide, and know only boards of the task.
 
 abbrev no_boards : Knowledge
 no_boards = map.empty
