@@ -122,6 +122,17 @@ fn read_spread(word: &str) -> Option<SpreadKind> {
     }
 }
 
+// The setup that is asked for, or the exit status where there is none.
+fn setup_of(rt: &(impl Threads + AllocGlobal + Sync), asked: &Asked) -> Result<Setup, u8> {
+    let Ok(setup) = guided_setup(rt, rt.alloc(), asked.shape, asked.fold) else {
+        return Err(4);
+    };
+    match setup.spread(asked.spread).workers(asked.workers) {
+        Ok(setup) => Ok(setup),
+        Err(_) => Err(2),
+    }
+}
+
 // The setup for boards of a shape: Korf's goal, unit costs, and tables for the default groups,
 // whole or folded.
 fn guided_setup(
@@ -133,13 +144,12 @@ fn guided_setup(
     let goal = Board::goal(shape);
     let weights = Weights::unit(shape);
     let groups = default_groups(alloc, shape)?;
-    let setup = Setup::new(alloc, goal, weights);
     if fold {
         let bound = build_folded_bound(rt, alloc, groups, &goal, &weights)?;
-        return Ok(setup.bound(bound));
+        return Ok(Setup::new(alloc, goal, weights).bound(bound));
     }
     let bound = build_bound(rt, alloc, groups, &goal, &weights)?;
-    Ok(setup.bound(bound))
+    Ok(Setup::new(alloc, goal, weights).bound(bound))
 }
 
 // Answers the lines of the source, and prints the counts.
@@ -150,13 +160,36 @@ fn run_lines<R: Threads + Wait + Eprint + AllocGlobal + Sync, S: Source, K: Sink
     setup: &Setup,
     counted: bool,
 ) -> Option<()> {
-    if !counted {
-        let counts = run_batch(rt, rt.alloc(), source, sink, setup, &Free).ok()?;
-        return print_counts(rt, counts, 0).ok();
-    }
+    let _ = eprintln!(rt; "tables are built");
+    let (counts, expanded) = if counted {
+        run_counted(rt, source, sink, setup)?
+    } else {
+        run_uncounted(rt, source, sink, setup)?
+    };
+    print_counts(rt, counts, expanded).ok()
+}
+
+// Answers the lines of the source, and how many boards were expanded for them.
+fn run_counted<R: Threads + Wait + AllocGlobal + Sync, S: Source, K: Sink>(
+    rt: &R,
+    source: &mut S,
+    sink: &mut K,
+    setup: &Setup,
+) -> Option<(Summary, u64)> {
     let counter = Counter::new();
     let counts = run_batch(rt, rt.alloc(), source, sink, setup, &counter).ok()?;
-    print_counts(rt, counts, counter.total()).ok()
+    Some((counts, counter.total()))
+}
+
+// Answers the lines of the source, and 0 in place of how many boards were expanded.
+fn run_uncounted<R: Threads + Wait + AllocGlobal + Sync, S: Source, K: Sink>(
+    rt: &R,
+    source: &mut S,
+    sink: &mut K,
+    setup: &Setup,
+) -> Option<(Summary, u64)> {
+    let counts = run_batch(rt, rt.alloc(), source, sink, setup, &Free).ok()?;
+    Some((counts, 0))
 }
 
 fn print_counts(
@@ -175,6 +208,39 @@ fn print_counts(
     )
 }
 
+// Answers the lines of the input by a setup. Answers the exit status.
+fn run_input<R, I, O>(rt: &R, setup: &Setup, counted: bool, input: I, output: O) -> u8
+where
+    R: Threads + Wait + Eprint + AllocGlobal + Sync,
+    I: Read + Drop,
+    O: Write + Drop,
+{
+    match BufferedSource::new(rt.alloc(), input) {
+        Ok(source) => {
+            let mut source = source;
+            run_source(rt, setup, counted, &mut source, output)
+        }
+        Err(_) => 4,
+    }
+}
+
+// Answers the lines of the source on an output. Answers the exit status.
+fn run_source<R, S, O>(rt: &R, setup: &Setup, counted: bool, source: &mut S, output: O) -> u8
+where
+    R: Threads + Wait + Eprint + AllocGlobal + Sync,
+    S: Source,
+    O: Write + Drop,
+{
+    let Ok(writer) = BufWriter::new(rt.alloc(), output) else {
+        return 4;
+    };
+    let mut sink = ByteSink::new(writer);
+    match run_lines(rt, source, &mut sink, setup, counted) {
+        Some(()) => 0,
+        None => 3,
+    }
+}
+
 /// Answers the lines of the input as the words after the part's name ask for. Answers the exit
 /// status.
 pub fn run<R, I, O>(rt: &R, words: &[String], input: I, output: O) -> u8
@@ -183,27 +249,11 @@ where
     I: Read + Drop,
     O: Write + Drop,
 {
-    let alloc = rt.alloc();
     let Some(asked) = read_words(words) else {
         return 2;
     };
-    let (Ok(source), Ok(writer)) = (
-        BufferedSource::new(alloc, input),
-        BufWriter::new(alloc, output),
-    ) else {
-        return 4;
-    };
-    let Ok(setup) = guided_setup(rt, alloc, asked.shape, asked.fold) else {
-        return 4;
-    };
-    let Ok(setup) = setup.spread(asked.spread).workers(asked.workers) else {
-        return 2;
-    };
-    let _ = eprintln!(rt; "tables are built");
-    let mut source = source;
-    let mut sink = ByteSink::new(writer);
-    match run_lines(rt, &mut source, &mut sink, &setup, asked.counted) {
-        Some(()) => 0,
-        None => 3,
+    match setup_of(rt, &asked) {
+        Ok(setup) => run_input(rt, &setup, asked.counted, input, output),
+        Err(status) => status,
     }
 }

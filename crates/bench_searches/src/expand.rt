@@ -6,9 +6,11 @@
 //! lower cost.
 
 ghost use Rattle.std.specs.Prelude.{◌≡◌, IfSome};
+ghost use Rattle.lower_bound.specs.Tables.{ArePotentials};
 ghost use Rattle.worker_core.specs.Serving.{Serves};
 
 use board::{Board, Move, Shape, Weights};
+use lower_bound::Bound;
 use message_ledger::{Allowance, Credit, Grants, Plain, Purse};
 use owners::ByBlank;
 use quiescence::Book;
@@ -21,7 +23,7 @@ use worker_core::{Context, Goal, Successors, Worker};
 use world_model::{Item, Refusal};
 
 // A board whose plans cost at least 57 (Korf 1985, the first of his hundred).
-const START: [u8; 16] = [14, 13, 15, 7, 11, 12, 9, 5, 6, 0, 2, 1, 4, 8, 10, 3];
+static START: [u8; 16] = [14, 13, 15, 7, 11, 12, 9, 5, 6, 0, 2, 1, 4, 8, 10, 3];
 
 // Groups whose tables have some 43,000 values each.
 const SMALL_GROUPS: [&[u8]; 5] = [
@@ -50,10 +52,25 @@ fn search(alloc: Global, context: &Context<'_, ByBlank>, start: Board, count: u6
     requires start { start.grid ≡ context.now.goal.grid }
 {
     let (credit, purse) = Credit::plain();
-    let mut book = Book::new(credit, Grants::plain(), count, 1);
     let mut worker = begin(alloc, context, start, purse)?;
+    let mut book = Book::new(credit, Grants::plain(), count, 1);
+    expand_boards(alloc, context, &mut worker, &mut book, count)
+}
+
+// Expands `count` boards, or as many as lead to the goal; None where there is no memory for it.
+fn expand_boards(
+    alloc: Global,
+    context: &Context<'_, ByBlank>,
+    worker: &mut Worker<Plain>,
+    book: &mut Book<Plain>,
+    count: u64,
+) -> Option<Stop>
+    requires one { context.now.workers ≡ 1 }
+    requires serves { Serves context.now worker.old }
+    requires counted { worker.old.allowance.granted ≡ book.old.granted }
+{
     'boards: for _ in 0..count {
-        if !refill(context, &mut worker, &mut book) {
+        if !refill(context, worker, book) {
             break;
         }
         match worker.expand(alloc, context, Successors::All) {
@@ -141,18 +158,31 @@ fn run_search(rt: &(impl Print + AllocGlobal), count: u64, groups: &[&[u8]]) -> 
     let shape = Shape::new(4, 4).ok()?;
     let goal = Board::goal(shape);
     let weights = Weights::unit(shape);
-    let Ok(start) = Board::from_tiles(shape, &START) else {
-        return None;
-    };
     let bound = bound_of(rt.alloc(), &goal, &weights, groups)?;
+    run_guided(rt, &goal, &weights, &bound, count)
+}
+
+// Searches by these tables, and prints.
+fn run_guided(
+    rt: &(impl Print + AllocGlobal),
+    goal: &Board,
+    weights: &Weights,
+    bound: &Bound,
+    count: u64,
+) -> Option<()>
+    requires weights { weights.now.grid ≡ goal.now.grid }
+    requires sides { bound.now.split.grid ≡ goal.now.grid }
+    requires potentials { ArePotentials weights.now goal.now bound.now }
+{
+    let start = Board::from_tiles(goal.shape(), &START).ok()?;
     let sum = bound.of(&start);
     println!(rt; "sum {sum}").ok()?;
     let context = Context {
         me: 0,
         workers: 1,
-        goal: &Goal::new(&goal),
-        weights: &weights,
-        bound: &bound,
+        goal: &Goal::new(goal),
+        weights,
+        bound,
         owners: &ByBlank,
     };
     let stop = search(rt.alloc(), &context, start, count)?;

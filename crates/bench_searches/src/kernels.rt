@@ -10,7 +10,7 @@ mod tables;
 mod words;
 
 use board::Shape;
-use containers::search;
+use containers::{Stop, search};
 use pattern_index::{Group, Partition};
 use ranks::sum_of_ranks;
 use std::io::{self, ErrorKind, Print};
@@ -76,12 +76,16 @@ fn print_sums(
 }
 
 fn print_search(rt: &(impl Print + AllocGlobal), count: usize) -> io::Result<()> {
-    let Some(found) = search(rt.alloc(), count) else {
-        return Err(ErrorKind::OutOfMemory.into());
-    };
-    let expanded = found.expanded;
-    let known = found.known;
-    let f = found.f;
+    match search(rt.alloc(), count) {
+        Some(found) => print_stop(rt, found),
+        None => Err(ErrorKind::OutOfMemory.into()),
+    }
+}
+
+fn print_stop(rt: &impl Print, stop: Stop) -> io::Result<()> {
+    let expanded = stop.expanded;
+    let known = stop.known;
+    let f = stop.f;
     println!(rt; "expanded {expanded} known {known} f {f}")
 }
 

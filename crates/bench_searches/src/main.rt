@@ -50,14 +50,14 @@ mod kernels;
 mod threads;
 
 use std::env;
-use std::io::{Eprint, Print, Read, Write};
+use std::io::{Eprint, Print};
 use std::process::ExitCode;
-use std::rt::Env;
+use std::rt::{Env, Stdin, Stdout};
 use std::sync::Wait;
 use std::thread::Threads;
 
 // The parts, in the order in which they are run.
-const PARTS: [&str; 11] = [
+static PARTS: [&str; 11] = [
     "step",
     "rank",
     "table",
@@ -72,23 +72,10 @@ const PARTS: [&str; 11] = [
 ];
 
 fn main(rt: HostRuntime) -> ExitCode {
-    let Some(words) = read_words(&rt) else {
-        return refuse(&rt);
-    };
-    if let Some((part, words)) = words.split_first() {
-        return match run_part(&rt, part, words, rt.stdin(), rt.stdout()) {
-            2 => refuse(&rt),
-            status => ExitCode::from(status),
-        };
+    match read_words(&rt) {
+        Some(words) => ExitCode::from(run_words(&rt, &words, rt.stdin(), rt.stdout())),
+        None => ExitCode::from(refuse(&rt)),
     }
-    for part in PARTS {
-        let _ = println!(&rt; "== {part}");
-        let status = run_part(&rt, part, &[], rt.stdin(), rt.stdout());
-        if status != 0 {
-            return ExitCode::from(status);
-        }
-    }
-    ExitCode::SUCCESS
 }
 
 // The words after the program's name, or None where they are no texts, or there is no memory for
@@ -97,12 +84,39 @@ fn read_words(rt: &(impl Env + AllocGlobal)) -> Option<Vec<String>> {
     env::args(rt).ok()?.skip(1).collect(rt.alloc()).ok()
 }
 
-// Runs a part by the words after its name, and answers the exit status.
-fn run_part<R, I, O>(rt: &R, part: &str, words: &[String], input: I, output: O) -> u8
+// Runs what the words name, and answers the exit status.
+fn run_words<R>(rt: &R, words: &[String], input: Stdin, output: Stdout) -> u8
 where
     R: Threads + Wait + Print + Eprint + AllocGlobal + Sync,
-    I: Read + Drop,
-    O: Write + Drop,
+{
+    let Some((part, words)) = words.split_first() else {
+        return run_all(rt, input, output);
+    };
+    match run_part(rt, part, words, input, output) {
+        2 => refuse(rt),
+        status => status,
+    }
+}
+
+// Makes the small run of each part, and answers the exit status.
+fn run_all<R>(rt: &R, input: Stdin, output: Stdout) -> u8
+where
+    R: Threads + Wait + Print + Eprint + AllocGlobal + Sync,
+{
+    for part in &PARTS {
+        let _ = println!(rt; "== {part}");
+        let status = run_part(rt, part, &[], input, output);
+        if status != 0 {
+            return status;
+        }
+    }
+    0
+}
+
+// Runs a part by the words after its name, and answers the exit status.
+fn run_part<R>(rt: &R, part: &str, words: &[String], input: Stdin, output: Stdout) -> u8
+where
+    R: Threads + Wait + Print + Eprint + AllocGlobal + Sync,
 {
     match part {
         "expand" => expand::run(rt, words),
@@ -114,7 +128,7 @@ where
 }
 
 // Says which words the program takes, and answers the exit status for others.
-fn refuse(rt: &impl Eprint) -> ExitCode {
+fn refuse(rt: &impl Eprint) -> u8 {
     let _ = rt.eprintln(
         "usage: bench_searches [step [SIDE STEPS] | rank [SIDE TILES RANKS] \
          | table [ROWS COLS COUNT..] | weighed [WEIGHTS GOAL ROWS COLS COUNT..] \
@@ -122,5 +136,5 @@ fn refuse(rt: &impl Eprint) -> ExitCode {
          | containers [COUNT] | expand [COUNT] | finish [plain | guided] \
          | batch [ROWS COLS [WORKERS [SPREAD [TABLES [uncounted]]]]] | threads [SEED COUNT]]",
     );
-    ExitCode::from(2)
+    2
 }

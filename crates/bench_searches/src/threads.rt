@@ -10,7 +10,7 @@ use rand_core::SeedableRng;
 use rand_core::utils::NextWord;
 use rand_xoshiro::SplitMix64;
 use std::alloc::Global;
-use std::io::Print;
+use std::io::{self, Print};
 use std::sync::Wait;
 use std::thread::Threads;
 use test_worlds::{
@@ -18,7 +18,7 @@ use test_worlds::{
 };
 
 // A group for each tile.
-const GROUPS: [&[u8]; 15] = [
+static GROUPS: [&[u8]; 15] = [
     &[1],
     &[2],
     &[3],
@@ -184,17 +184,23 @@ fn solve_next<R: Threads + Wait + Print + AllocGlobal + Sync>(
     let Some((one, many)) = answers_to(rt, rt.alloc(), &walk) else {
         return false;
     };
-    let shape = walk.start.shape();
-    let (rows, cols) = (shape.rows(), shape.cols());
-    let (workers, word) = (walk.team.workers, walk.team.division.word());
-    let _ = println!(rt;
-        "{rows} by {cols}, {} cost, {workers} workers by the {word}: {many:?}",
-        walk.costs.word()
-    );
+    let _ = print_walk(rt, &walk);
+    let _ = println!(rt; "{many:?}");
     if one != many {
         let _ = println!(rt; "one worker: {one:?}");
     }
     one == many
+}
+
+// Prints what was solved, and by whom.
+fn print_walk(rt: &impl Print, walk: &Walk) -> io::Result<()> {
+    let shape = walk.start.shape();
+    let (rows, cols) = (shape.rows(), shape.cols());
+    let (workers, word) = (walk.team.workers, walk.team.division.word());
+    print!(rt;
+        "{rows} by {cols}, {} cost, {workers} workers by the {word}: ",
+        walk.costs.word()
+    )
 }
 
 /// Solves the boards that the words after the part's name ask for, and prints the answers. Answers

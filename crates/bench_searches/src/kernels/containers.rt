@@ -42,6 +42,16 @@ fn distances() -> [u32; 256] {
     distances
 }
 
+// Where the move of this number takes the blank, the move, and whether the board has that cell.
+fn target(number: u32, blank: usize) -> (usize, Move, bool) {
+    match number {
+        0 => (blank.wrapping_sub(4), Move::U, blank >= 4),
+        1 => (blank.wrapping_sub(1), Move::L, blank & 3 != 0),
+        2 => (blank.wrapping_add(1), Move::R, blank & 3 != 3),
+        _ => (blank.wrapping_add(4), Move::D, blank < 12),
+    }
+}
+
 // The board after many moves from the goal: its key, and the distances of its tiles.
 fn scrambled(distances: &[u32; 256]) -> (u128, u32) {
     let mut tiles = [0u8, 1, 2, 3, 4, 5, 6, 7, 8, 9, 10, 11, 12, 13, 14, 15];
@@ -51,12 +61,7 @@ fn scrambled(distances: &[u32; 256]) -> (u128, u32) {
         state ^= state.wrapping_shl(13);
         state ^= state >> 7;
         state ^= state.wrapping_shl(17);
-        let (to, is_move) = match state & 3 {
-            0 => (blank.wrapping_sub(4), blank >= 4),
-            1 => (blank.wrapping_sub(1), blank & 3 != 0),
-            2 => (blank.wrapping_add(1), blank & 3 != 3),
-            _ => (blank.wrapping_add(4), blank < 12),
-        };
+        let (to, _, is_move) = target((state & 3) as u32, blank);
         if is_move {
             tiles[blank & 15] = tiles[to & 15];
             tiles[to & 15] = 0;
@@ -75,18 +80,34 @@ fn scrambled(distances: &[u32; 256]) -> (u128, u32) {
 
 // A board is met; None where there is no memory for it.
 fn meet(alloc: Global, lists: &mut Lists, key: u128, g: u32, f: u32, via: Move) -> Option<()> {
-    let Ok(()) = lists.closed.reserve(alloc, 1) else {
-        return None;
-    };
-    let f = f & 255;
-    let Ok(()) = lists.open.reserve(alloc, f, 1) else {
-        return None;
-    };
-    let (answer, place) = lists.closed.relax(key, g, via);
+    let (answer, place) = relax(alloc, &mut lists.closed, key, g, via)?;
     match answer {
-        Relaxed::Kept => {}
-        _ => lists.open.put(f, place, g),
+        Relaxed::Kept => Some(()),
+        _ => put(alloc, &mut lists.open, place, g, f),
     }
+}
+
+// What the known boards answer to a board, and its place; None where there is no memory for it.
+fn relax(
+    alloc: Global,
+    closed: &mut Closed,
+    key: u128,
+    g: u32,
+    via: Move,
+) -> Option<(Relaxed, u32)> {
+    let Ok(()) = closed.reserve(alloc, 1) else {
+        return None;
+    };
+    Some(closed.relax(key, g, via))
+}
+
+// The board at a place waits; None where there is no memory for it.
+fn put(alloc: Global, open: &mut Open<u32>, place: u32, g: u32, f: u32) -> Option<()> {
+    let f = f & 255;
+    let Ok(()) = open.reserve(alloc, f, 1) else {
+        return None;
+    };
+    open.put(f, place, g);
     Some(())
 }
 
@@ -98,9 +119,49 @@ fn moved(key: u128, tile: usize, from: usize, to: usize) -> u128 {
     key ^ (low << a) ^ (low << b)
 }
 
+// The successors of a board: how many there are, and of each the key, the cost plus sum, and the
+// move.
+#[derive(Drop)]
+struct Successors {
+    count: usize,
+    keys: [u128; 4],
+    sums: [u32; 4],
+    moves: [Move; 4],
+}
+
 // Expands a board: its successors are made, read ahead, and met.
 fn expand(alloc: Global, lists: &mut Lists, key: u128, g: u32, f: u32) -> Option<()> {
+    let mut successors = Successors {
+        count: 0,
+        keys: [0; 4],
+        sums: [0; 4],
+        moves: [Move::U; 4],
+    };
+    make_successors(&lists.distances, key, f, &mut successors);
+    meet_all(alloc, lists, &successors, g.wrapping_add(1))
+}
+
+// Makes the successors of a board.
+fn make_successors(distances: &[u32; 256], key: u128, f: u32, successors: &mut Successors) {
     let mut tiles = [0u8; 16];
+    let blank = decode(key, &mut tiles);
+    for number in 0..4u32 {
+        let (to, via, is_move) = target(number, blank);
+        if is_move {
+            let tile = (tiles[to & 15] & 15) as usize;
+            let before = distances[(tile * 16 + (to & 15)) & 255];
+            let after = distances[(tile * 16 + (blank & 15)) & 255];
+            let place = successors.count & 3;
+            successors.keys[place] = moved(key, tile, to, blank);
+            successors.sums[place] = f.wrapping_add(1).wrapping_add(after).wrapping_sub(before);
+            successors.moves[place] = via;
+            successors.count = successors.count.wrapping_add(1);
+        }
+    }
+}
+
+// Writes the tiles of a board by their cells, and answers the blank's cell.
+fn decode(key: u128, tiles: &mut [u8; 16]) -> usize {
     let mut blank = 0usize;
     let mut rest = key;
     for back in 0..16u32 {
@@ -112,40 +173,20 @@ fn expand(alloc: Global, lists: &mut Lists, key: u128, g: u32, f: u32) -> Option
         }
         rest >>= 5;
     }
-    let mut keys = [0u128; 4];
-    let mut sums = [0u32; 4];
-    let mut moves = [Move::U; 4];
-    let mut count = 0usize;
-    for direction in 0..4u32 {
-        let (to, via, is_move) = match direction {
-            0 => (blank.wrapping_sub(4), Move::U, blank >= 4),
-            1 => (blank.wrapping_sub(1), Move::L, blank & 3 != 0),
-            2 => (blank.wrapping_add(1), Move::R, blank & 3 != 3),
-            _ => (blank.wrapping_add(4), Move::D, blank < 12),
-        };
-        if is_move {
-            let tile = (tiles[to & 15] & 15) as usize;
-            let before = lists.distances[(tile * 16 + (to & 15)) & 255];
-            let after = lists.distances[(tile * 16 + (blank & 15)) & 255];
-            keys[count & 3] = moved(key, tile, to, blank);
-            sums[count & 3] = f.wrapping_add(1).wrapping_add(after).wrapping_sub(before);
-            moves[count & 3] = via;
-            count = count.wrapping_add(1);
-        }
-    }
+    blank
+}
+
+// The successors are read ahead, and met at a cost.
+fn meet_all(alloc: Global, lists: &mut Lists, successors: &Successors, g: u32) -> Option<()> {
+    let count = successors.count;
     if count > 4 {
         return None;
     }
-    lists.closed.read_ahead(&keys[..count]);
+    lists.closed.read_ahead(&successors.keys[..count]);
     for n in 0..count {
-        meet(
-            alloc,
-            lists,
-            keys[n & 3],
-            g.wrapping_add(1),
-            sums[n & 3],
-            moves[n & 3],
-        )?;
+        let key = successors.keys[n & 3];
+        let f = successors.sums[n & 3];
+        meet(alloc, lists, key, g, f, successors.moves[n & 3])?;
     }
     Some(())
 }
@@ -172,7 +213,19 @@ pub(crate) fn search(alloc: Global, count: usize) -> Option<Stop> {
         open: Open::new(alloc),
         distances,
     };
-    meet(alloc, &mut lists, start, 0, sum, Move::U)?;
+    search_from(alloc, &mut lists, start, sum, count)
+}
+
+// Searches from a board with this sum until this many boards are known; None where there is no
+// memory for it.
+fn search_from(
+    alloc: Global,
+    lists: &mut Lists,
+    start: u128,
+    sum: u32,
+    count: usize,
+) -> Option<Stop> {
+    meet(alloc, lists, start, 0, sum, Move::U)?;
     let mut expanded = 0u64;
     let mut f = sum & 255;
     for _ in 0..u64::MAX {
@@ -185,7 +238,7 @@ pub(crate) fn search(alloc: Global, count: usize) -> Option<Stop> {
         };
         if let Some(key) = key_to_expand(&mut lists.closed, place, g) {
             expanded = expanded.wrapping_add(1);
-            expand(alloc, &mut lists, key, g, f)?;
+            expand(alloc, lists, key, g, f)?;
         }
     }
     Some(Stop {

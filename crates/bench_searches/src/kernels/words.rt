@@ -8,12 +8,12 @@ use pattern_index::{Group, Partition};
 use std::alloc::Global;
 
 // The tiles that the boards of some shape have.
-const TILES: [u8; 24] = [
+static TILES: [u8; 24] = [
     1, 2, 3, 4, 5, 6, 7, 8, 9, 10, 11, 12, 13, 14, 15, 16, 17, 18, 19, 20, 21, 22, 23, 24,
 ];
 
 // Parts, each with the numbers of its small run.
-const SMALL: [(&str, &[usize]); 7] = [
+static SMALL: [(&str, &[usize]); 7] = [
     ("step", &[3, 1000]),
     ("rank", &[4, 5, 1000]),
     ("table", &[2, 3, 2, 3]),
@@ -41,20 +41,26 @@ pub enum Part {
 /// The part of a name by the words after it, or by its small run without words. `None` where they name
 /// no part, or there is no memory for it.
 pub fn read_words(alloc: Global, name: &str, words: &[String]) -> Option<Part> {
+    if words.is_empty() {
+        return read_part(alloc, name, small(name));
+    }
+    let numbers = numbers_of(alloc, words)?;
+    read_part(alloc, name, &numbers)
+}
+
+// The numbers that words name, or `None` where one names none, or there is no memory for them.
+fn numbers_of(alloc: Global, words: &[String]) -> Option<Vec<usize>> {
     let mut numbers = Vec::new(alloc);
     for word in words {
         numbers.push(word.parse().ok()?).ok()?;
     }
-    if numbers.is_empty() {
-        return read_part(alloc, name, small(name));
-    }
-    read_part(alloc, name, &numbers)
+    Some(numbers)
 }
 
 // The numbers of the small run of a part; none for a name of no part.
 fn small(name: &str) -> &'static [usize] {
-    for (part, numbers) in SMALL {
-        if part == name {
+    for (part, numbers) in &SMALL {
+        if *part == name {
             return numbers;
         }
     }
@@ -163,11 +169,37 @@ fn read_groups(alloc: Global, shape: Shape, counts: &[usize]) -> Option<Vec<Grou
     ensures { IfSome result (λ groups. All (λ g. g.grid ≡ shape) groups.items) }
 {
     let mut groups = Vec::new(alloc);
-    let mut left = TILES.as_slice();
-    'counts: for count in counts {
-        let group = Group::new(shape, left.get(..*count)?).ok()?;
-        groups.push(group).ok()?;
-        left = left.get(*count..)?;
+    if !add_groups(&mut groups, shape, counts) {
+        return None;
     }
     Some(groups)
+}
+
+// Adds groups of these counts of tiles. Answers whether all of them were made.
+fn add_groups(groups: &mut Vec<Group>, shape: Shape, counts: &[usize]) -> bool
+    requires { All (λ g. g.grid ≡ shape) groups.old.items }
+    ensures { All (λ g. g.grid ≡ shape) groups.new.items }
+{
+    let mut left = TILES.as_slice();
+    'counts: for count in counts {
+        let Some((tiles, rest)) = left.split_at_checked(*count) else {
+            return false;
+        };
+        if !add_group(groups, shape, tiles) {
+            return false;
+        }
+        left = rest;
+    }
+    true
+}
+
+// Adds the group of these tiles. Answers whether it was made.
+fn add_group(groups: &mut Vec<Group>, shape: Shape, tiles: &[u8]) -> bool
+    requires { All (λ g. g.grid ≡ shape) groups.old.items }
+    ensures { All (λ g. g.grid ≡ shape) groups.new.items }
+{
+    match Group::new(shape, tiles) {
+        Ok(group) => groups.push(group).is_ok(),
+        Err(_) => false,
+    }
 }

@@ -1,5 +1,5 @@
 use Rattle.std.proofs.Common.{◌∙◌}
-use Rattle.bench_searches.proofs.expand.search.Goals as goal
+use Rattle.bench_searches.proofs.expand.expand_boards.Goals as goal
 
 pub boards-preserved : goal.boards-preserved
 boards-preserved c =
