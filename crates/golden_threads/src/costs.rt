@@ -25,19 +25,37 @@ struct Count {
 
 /// Prints of how many boards of 2 by 2, and of 2 by 3, so many workers find the least cost.
 pub fn print_counts<R: Threads + Wait + Print + AllocGlobal + Sync>(rt: &R) -> io::Result<()> {
-    for (cols, workers) in [(2, 2), (2, 3), (3, 3)] {
-        let Ok(shape) = Shape::new(2, cols) else {
-            return Err(ErrorKind::InvalidData.into());
-        };
-        println!(rt; "# All boards of 2 by {cols}, workers {workers}")?;
-        for division in Division::ALL {
-            let team = Team { workers, division };
-            print_count(rt, "unit", Weights::unit(shape), team)?;
-            print_count(rt, "face", Weights::face(shape), team)?;
-        }
-        rt.println("")?;
+    print_shape(rt, 2, 2)?;
+    print_shape(rt, 2, 3)?;
+    print_shape(rt, 3, 3)
+}
+
+// Prints it of the boards of two rows and `cols` columns.
+fn print_shape<R: Threads + Wait + Print + AllocGlobal + Sync>(
+    rt: &R,
+    cols: u8,
+    workers: usize,
+) -> io::Result<()> {
+    let Ok(shape) = Shape::new(2, cols) else {
+        return Err(ErrorKind::InvalidData.into());
+    };
+    println!(rt; "# All boards of 2 by {cols}, workers {workers}")?;
+    for division in &Division::ALL {
+        print_team(rt, shape, workers, *division)?;
     }
-    Ok(())
+    rt.println("")
+}
+
+// Prints it of a team, at unit cost and at face cost.
+fn print_team<R: Threads + Wait + Print + AllocGlobal + Sync>(
+    rt: &R,
+    shape: Shape,
+    workers: usize,
+    division: Division,
+) -> io::Result<()> {
+    let team = Team { workers, division };
+    print_count(rt, "unit", Weights::unit(shape), team)?;
+    print_count(rt, "face", Weights::face(shape), team)
 }
 
 fn print_count<R: Threads + Wait + Print + AllocGlobal + Sync>(
@@ -47,10 +65,14 @@ fn print_count<R: Threads + Wait + Print + AllocGlobal + Sync>(
     team: Team,
 ) -> io::Result<()> {
     let goal = Board::goal(weights.shape());
-    let Some(Count { plans, right }) = count_boards(rt, rt.alloc(), goal, weights, team) else {
-        return Err(ErrorKind::OutOfMemory.into());
-    };
-    let word = team.division.word();
+    match count_boards(rt, rt.alloc(), goal, weights, team) {
+        Some(count) => print_found(rt, name, team.division.word(), count),
+        None => Err(ErrorKind::OutOfMemory.into()),
+    }
+}
+
+fn print_found(rt: &impl Print, name: &str, word: &str, count: Count) -> io::Result<()> {
+    let Count { plans, right } = count;
     println!(rt; "at {name} cost, by the {word}: {right} of {plans} costs are the least")
 }
 
@@ -66,19 +88,34 @@ fn count_boards<R: Threads + Wait + Sync>(
 {
     let bound = bound_of(alloc, &goal, &weights, &[])?;
     let boards = least_costs(alloc, &goal, &weights).ok()?;
+    Some(count_all(rt, alloc, goal, weights, &bound, &boards, team))
+}
+
+// Counts these boards, each with its least cost, or None where it has no plan.
+fn count_all<R: Threads + Wait + Sync>(
+    rt: &R,
+    alloc: Global,
+    goal: Board,
+    weights: Weights,
+    bound: &Bound,
+    boards: &[(Board, Option<u32>)],
+    team: Team,
+) -> Count
+    requires { ArePotentials weights goal bound.now }
+{
     let mut count = Count { plans: 0, right: 0 };
-    for (start, least) in boards.as_slice() {
-        let problem = Problem {
-            start: *start,
-            goal,
-            weights,
-            limit: u64::MAX,
-        };
+    for (start, least) in boards {
         if let Some(cost) = least {
-            count_board(&mut count, rt, alloc, &problem, &bound, team, *cost);
+            let problem = Problem {
+                start: *start,
+                goal,
+                weights,
+                limit: u64::MAX,
+            };
+            count_board(&mut count, rt, alloc, &problem, bound, team, *cost);
         }
     }
-    Some(count)
+    count
 }
 
 // Counts a board that has a plan of this cost, and none of a lower one.

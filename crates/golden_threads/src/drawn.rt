@@ -30,6 +30,9 @@ const SHORT: Range<usize> = 0..401;
 // Of these some meet a plan of each board.
 const LONG: Range<usize> = 401..2401;
 
+// The boards of 2 by 2 that the worlds are of, and their least costs.
+static BOARDS: [([u8; 4], u32); 2] = [([3, 2, 1, 0], 6), ([1, 0, 2, 3], 1)];
+
 /// Prints what the beginnings answer of two boards.
 pub fn print_drawn(rt: &(impl Print + AllocGlobal)) -> io::Result<()> {
     let Ok(steps) = draw_steps(rt.alloc(), LONG.end - 1) else {
@@ -40,8 +43,8 @@ pub fn print_drawn(rt: &(impl Print + AllocGlobal)) -> io::Result<()> {
 
 // Prints what the beginnings of these steps answer of two boards.
 fn print_boards(rt: &(impl Print + AllocGlobal), steps: &[Step]) -> io::Result<()> {
-    for (tiles, least) in [([3, 2, 1, 0], 6), ([1, 0, 2, 3], 1)] {
-        print_board(rt, steps, &tiles, least)?;
+    for (tiles, least) in &BOARDS {
+        print_board(rt, steps, tiles, *least)?;
     }
     Ok(())
 }
@@ -58,10 +61,8 @@ fn print_board(
         return Err(ErrorKind::InvalidData.into());
     };
     println!(rt; "{tiles:?}, of least cost {least}")?;
-    for lengths in [SHORT, LONG] {
-        print_tally(rt, steps, lengths, start, least)?;
-    }
-    Ok(())
+    print_tally(rt, steps, SHORT, start, least)?;
+    print_tally(rt, steps, LONG, start, least)
 }
 
 // Prints what the beginnings of these lengths answer.
@@ -125,6 +126,19 @@ fn tally_beginnings(
     least: u32,
 ) -> Option<Tally> {
     let bound = no_tables(alloc, start.shape());
+    tally_with(alloc, &bound, steps, lengths, start, least)
+}
+
+fn tally_with(
+    alloc: Global,
+    bound: &Bound,
+    steps: &[Step],
+    lengths: Range<usize>,
+    start: Board,
+    least: u32,
+) -> Option<Tally>
+    requires { (bound.now.lookups ≡ []) × (bound.now.folds ≡ []) }
+{
     let mut tally = Tally {
         bounds: 0,
         greatest: 0,
@@ -132,48 +146,73 @@ fn tally_beginnings(
         wrong: 0,
     };
     for length in lengths {
-        let outcome = outcome_after(alloc, &bound, steps.get(..length)?, start)?;
-        count(&mut tally, alloc, &bound, start, least, outcome);
+        count_after(&mut tally, alloc, bound, steps.get(..length)?, start, least)?;
     }
     Some(tally)
 }
 
-// What a world of three workers answers after these steps.
-fn outcome_after(alloc: Global, bound: &Bound, steps: &[Step], start: Board) -> Option<Outcome>
+// Counts what a world of three workers answers after these steps.
+fn count_after(
+    tally: &mut Tally,
+    alloc: Global,
+    bound: &Bound,
+    steps: &[Step],
+    start: Board,
+    least: u32,
+) -> Option<()>
     requires { (bound.now.lookups ≡ []) × (bound.now.folds ≡ []) }
 {
     let goal = Board::goal(start.shape());
     let weights = Weights::unit(start.shape());
     let job = Job::new(start, goal, weights, bound, u64::MAX).ok()?;
+    let outcome = outcome_after(alloc, job, steps)?;
+    tally.count(alloc, bound, start, least, outcome);
+    Some(())
+}
+
+// What a world of three workers answers after these steps.
+fn outcome_after(alloc: Global, job: Job<'_>, steps: &[Step]) -> Option<Outcome> {
     let world = World::new(alloc, job, 3, &ByBlank).ok()?;
     Some(run_steps(alloc, world, steps).finish(alloc))
 }
 
-// Counts an outcome.
-fn count(
-    tally: &mut Tally,
-    alloc: Global,
-    tables: &Bound,
-    start: Board,
-    least: u32,
-    outcome: Outcome,
-) {
-    match outcome {
-        Outcome::Optimal { cost, plan, rows } => {
-            tally.plans = tally.plans.saturating_add(1);
-            let claim = Claim::Least { cost, plan };
-            if cost != least || !is_accepted(alloc, tables, start, claim, rows) {
-                tally.wrong = tally.wrong.saturating_add(1);
+impl Tally {
+    // Counts an outcome.
+    fn count(&mut self, alloc: Global, tables: &Bound, start: Board, least: u32, outcome: Outcome) {
+        match outcome {
+            Outcome::Optimal { cost, plan, rows } => {
+                let claim = Claim::Least { cost, plan };
+                let is_accepted = is_accepted(alloc, tables, start, claim, rows);
+                self.note_plan(is_accepted && cost == least);
             }
-        }
-        Outcome::Bounded { bound, rows, .. } => {
-            tally.bounds = tally.bounds.saturating_add(1);
-            tally.greatest = tally.greatest.max(bound);
-            if bound > least || !is_proved(alloc, tables, start, bound, rows) {
-                tally.wrong = tally.wrong.saturating_add(1);
+            Outcome::Bounded { bound, rows, .. } => {
+                let is_proved = is_proved(alloc, tables, start, bound, rows);
+                self.note_bound(bound, is_proved && bound <= least);
             }
+            Outcome::Unsolvable { .. } => self.note_wrong(),
         }
-        Outcome::Unsolvable { .. } => tally.wrong = tally.wrong.saturating_add(1),
+    }
+
+    // One more plan, right or wrong.
+    fn note_plan(&mut self, is_right: bool) {
+        self.plans = self.plans.saturating_add(1);
+        if !is_right {
+            self.note_wrong();
+        }
+    }
+
+    // One more bound, right or wrong.
+    fn note_bound(&mut self, bound: u32, is_right: bool) {
+        self.bounds = self.bounds.saturating_add(1);
+        self.greatest = self.greatest.max(bound);
+        if !is_right {
+            self.note_wrong();
+        }
+    }
+
+    // One more answer that is wrong.
+    fn note_wrong(&mut self) {
+        self.wrong = self.wrong.saturating_add(1);
     }
 }
 
@@ -204,7 +243,7 @@ fn is_accepted(
         version: Version::Two,
         shape,
         costs: Weights::unit(shape),
-        groups: Partition::new(shape, Vec::new(alloc)).unwrap(),
+        groups: no_groups(alloc, shape),
         start,
         goal: Board::goal(shape),
         claim,
@@ -214,4 +253,9 @@ fn is_accepted(
         Some(certificate) => check(&certificate, tables).is_ok(),
         None => false,
     }
+}
+
+// The partition of no group.
+fn no_groups(alloc: Global, shape: Shape) -> Partition {
+    Partition::new(shape, Vec::new(alloc)).unwrap()
 }

@@ -1,7 +1,10 @@
 //! Goals that are near.
 
+ghost use Rattle.lower_bound.specs.Tables.{ArePotentials};
+
 use board::{Board, Move, Shape, Weights};
 use hda_run::Free;
+use lower_bound::Bound;
 use memory::push;
 use std::alloc::Global;
 use std::io::{self, ErrorKind, Print};
@@ -12,7 +15,7 @@ use test_worlds::{
 };
 
 // The blank is in a corner, on a side, and in the middle.
-const STARTS: [[u8; 9]; 3] = [
+static STARTS: [[u8; 9]; 3] = [
     [0, 1, 2, 3, 4, 5, 6, 7, 8],
     [1, 0, 2, 3, 4, 5, 6, 7, 8],
     [1, 2, 3, 4, 0, 5, 6, 7, 8],
@@ -36,8 +39,8 @@ struct Count {
 /// Prints of how many goals up to three moves away 2 to 16 workers find the cost, by both spreads.
 pub fn print_counts<R: Threads + Wait + Print + AllocGlobal + Sync>(rt: &R) -> io::Result<()> {
     println!(rt; "# Goals 1 to {FARTHEST} moves away at unit cost, workers 2 to {MOST_WORKERS}")?;
-    for tiles in STARTS {
-        print_count(rt, &tiles)?;
+    for tiles in &STARTS {
+        print_count(rt, tiles)?;
     }
     Ok(())
 }
@@ -46,9 +49,14 @@ fn print_count<R: Threads + Wait + Print + AllocGlobal + Sync>(
     rt: &R,
     tiles: &[u8],
 ) -> io::Result<()> {
-    let Some(Count { goals, runs, right }) = count_goals(rt, rt.alloc(), tiles) else {
-        return Err(ErrorKind::OutOfMemory.into());
-    };
+    match count_goals(rt, rt.alloc(), tiles) {
+        Some(count) => print_found(rt, tiles, count),
+        None => Err(ErrorKind::OutOfMemory.into()),
+    }
+}
+
+fn print_found(rt: &impl Print, tiles: &[u8], count: Count) -> io::Result<()> {
+    let Count { goals, runs, right } = count;
     println!(rt; "{tiles:?}: {goals} goals, {right} of {runs} costs are the least")
 }
 
@@ -57,12 +65,22 @@ fn count_goals<R: Threads + Wait + Sync>(rt: &R, alloc: Global, tiles: &[u8]) ->
     let shape = Shape::new(3, 3).ok()?;
     let start = Board::from_tiles(shape, tiles).ok()?;
     let boards = boards_near(alloc, start)?;
+    count_boards(rt, alloc, start, boards.as_slice())
+}
+
+// Counts the goals among boards with the fewest moves that lead there, and the runs.
+fn count_boards<R: Threads + Wait + Sync>(
+    rt: &R,
+    alloc: Global,
+    start: Board,
+    boards: &[(Board, u32)],
+) -> Option<Count> {
     let mut count = Count {
         goals: 0,
         runs: 0,
         right: 0,
     };
-    for (goal, cost) in boards.as_slice() {
+    for (goal, cost) in boards {
         if *cost != 0 {
             count.goals = count.goals.saturating_add(1);
             count_goal(&mut count, rt, alloc, start, *goal, *cost)?;
@@ -87,19 +105,50 @@ fn count_goal<R: Threads + Wait + Sync>(
         limit: u64::MAX,
     };
     let bound = bound_of(alloc, &problem.goal, &problem.weights, &[])?;
-    let due = Answer::Plan(cost);
+    count_teams(count, rt, alloc, &problem, &bound, cost);
+    Some(())
+}
+
+// Counts the runs of each team for a problem whose least plan has this cost.
+fn count_teams<R: Threads + Wait + Sync>(
+    count: &mut Count,
+    rt: &R,
+    alloc: Global,
+    problem: &Problem,
+    bound: &Bound,
+    cost: u32,
+)
+    requires { ArePotentials problem.now.weights problem.now.goal bound.now }
+{
     for workers in 2..MOST_WORKERS + 1 {
-        for division in Division::HASHED {
-            let team = Team { workers, division };
-            let with_rows = answer_with_rows(rt, alloc, &problem, &bound, team, &Free);
-            let without_rows = answer_without_rows(rt, alloc, &problem, &bound, team, &Free);
-            count.runs = count.runs.saturating_add(1);
-            if with_rows == due && without_rows == due {
-                count.right = count.right.saturating_add(1);
-            }
+        for division in &Division::HASHED {
+            let team = Team {
+                workers,
+                division: *division,
+            };
+            count_team(count, rt, alloc, problem, bound, team, cost);
         }
     }
-    Some(())
+}
+
+fn count_team<R: Threads + Wait + Sync>(
+    count: &mut Count,
+    rt: &R,
+    alloc: Global,
+    problem: &Problem,
+    bound: &Bound,
+    team: Team,
+    cost: u32,
+)
+    requires { ArePotentials problem.now.weights problem.now.goal bound.now }
+{
+    let due = Answer::Plan(cost);
+    let with_rows = answer_with_rows(rt, alloc, problem, bound, team, &Free);
+    let without_rows = answer_without_rows(rt, alloc, problem, bound, team, &Free);
+    count.runs = count.runs.saturating_add(1);
+    if with_rows == due && without_rows == due {
+        count.right = count.right.saturating_add(1);
+    }
 }
 
 // The boards up to so many moves away, each with the fewest moves that lead there: first the start
@@ -109,13 +158,19 @@ fn boards_near(alloc: Global, start: Board) -> Option<Vec<(Board, u32)>> {
     push(&mut met, (start, 0)).ok()?;
     for cost in 1..FARTHEST + 1 {
         let round = round_of(alloc, met.as_slice(), cost)?;
-        for board in round.as_slice() {
-            if !has(met.as_slice(), board) {
-                push(&mut met, (*board, cost)).ok()?;
-            }
-        }
+        push_new(&mut met, round.as_slice(), cost)?;
     }
     Some(met)
+}
+
+// Adds the boards of a round that were not met before.
+fn push_new(met: &mut Vec<(Board, u32)>, round: &[Board], cost: u32) -> Option<()> {
+    for board in round {
+        if !has(met.as_slice(), board) {
+            push(met, (*board, cost)).ok()?;
+        }
+    }
+    Some(())
 }
 
 // The boards one move away from those that were met in the round before.

@@ -2,8 +2,11 @@
 //! settled an item. So this part fails where one thread does all the work, and where a worker that
 //! is held keeps the other from its steps; `checks/gate-test` shows both.
 
+ghost use Rattle.lower_bound.specs.Tables.{ArePotentials};
+
 use board::{Board, Shape, Weights};
 use hda_run::{Gate, Job, Kind};
+use lower_bound::Bound;
 use outcomes::Outcome;
 use owners::ByBlank;
 use std::alloc::Global;
@@ -106,9 +109,39 @@ fn cost_of<R: Threads + Wait + Sync>(rt: &R, alloc: Global, hold: &Hold) -> Opti
     let weights = Weights::unit(shape);
     let start = Board::from_tiles(shape, &START).ok()?;
     let bound = bound_of(alloc, &goal, &weights, &[])?;
-    let job = Job::new(start, goal, weights, &bound, u64::MAX).ok()?;
-    match solve(rt, alloc, job, WORKERS, &ByBlank, hold).ok()? {
-        Outcome::Optimal { cost, .. } => Some(cost),
+    cost_with(rt, alloc, start, goal, weights, &bound, hold)
+}
+
+// The same with these tables.
+fn cost_with<R: Threads + Wait + Sync>(
+    rt: &R,
+    alloc: Global,
+    start: Board,
+    goal: Board,
+    weights: Weights,
+    bound: &Bound,
+    hold: &Hold,
+) -> Option<u32>
+    requires { ArePotentials weights goal bound.now }
+{
+    let job = Job::new(start, goal, weights, bound, u64::MAX).ok()?;
+    cost_in(&outcome_of(rt, alloc, job, hold)?)
+}
+
+// What the workers answer, or None where memory was refused.
+fn outcome_of<R: Threads + Wait + Sync>(
+    rt: &R,
+    alloc: Global,
+    job: Job<'_>,
+    hold: &Hold,
+) -> Option<Outcome> {
+    solve(rt, alloc, job, WORKERS, &ByBlank, hold).ok()
+}
+
+// The cost of the plan in an outcome, or None where there is none.
+fn cost_in(outcome: &Outcome) -> Option<u32> {
+    match outcome {
+        Outcome::Optimal { cost, .. } => Some(*cost),
         _ => None,
     }
 }

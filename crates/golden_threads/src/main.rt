@@ -65,16 +65,23 @@ fn run_all<R: Threads + Wait + Print + Eprint + AllocGlobal + Sync>(rt: &R) -> u
 // Prints a part, and answers the exit status.
 fn run_part<R: Threads + Wait + Print + Eprint + AllocGlobal + Sync>(rt: &R, name: &str) -> u8 {
     match print_part(rt, name) {
-        Some(Ok(())) => 0,
-        Some(Err(error)) => {
-            let _ = eprintln!(rt; "golden_threads: {name}: {error}");
-            1
-        }
+        Some(printed) => status_of(rt, name, &printed),
         None => {
             let _ = rt.eprintln(
                 "usage: golden_threads [costs | goals | held | gated | drawn | solved]",
             );
             2
+        }
+    }
+}
+
+// The exit status of a part, after its fault is printed, if there is one.
+fn status_of(rt: &impl Eprint, name: &str, printed: &io::Result<()>) -> u8 {
+    match printed {
+        Ok(()) => 0,
+        Err(error) => {
+            let _ = eprintln!(rt; "golden_threads: {name}: {error}");
+            1
         }
     }
 }

@@ -12,7 +12,7 @@ use cases::{CASES, RUN_START, RUNS, Run};
 use hda_run::{Job, WorldFault, run_and_finish};
 use lower_bound::Bound;
 use outcomes::Outcome;
-use owners::{ByBlank, Zobrist};
+use owners::{ByBlank, Spread, Zobrist};
 use std::alloc::Global;
 use std::io::{self, ErrorKind, Print};
 use test_worlds::{ByRow, Division};
@@ -47,17 +47,24 @@ fn print_result(rt: &impl Print, answer: &Option<Result<Outcome, WorldFault>>) -
 
 // What `run_and_finish` answers, or None where there is no job.
 fn answer(alloc: Global, run: &Run) -> Option<Result<Outcome, WorldFault>> {
-    let bound = no_tables(alloc, Shape::new(2, 2).ok()?);
+    let shape = Shape::new(2, 2).ok()?;
+    let bound = no_tables(alloc, shape);
     let job = job_of(&bound)?;
-    let Run { workers, steps, .. } = *run;
     Some(match run.division {
-        Division::ByBlank => run_and_finish(alloc, job, workers, &ByBlank, steps),
-        Division::ByHash => {
-            let spread = Zobrist::new(Shape::new(2, 2).ok()?);
-            run_and_finish(alloc, job, workers, &spread, steps)
-        }
-        Division::ByRow => run_and_finish(alloc, job, workers, &ByRow, steps),
+        Division::ByBlank => answer_by(alloc, job, run, &ByBlank),
+        Division::ByHash => answer_by(alloc, job, run, &Zobrist::new(shape)),
+        Division::ByRow => answer_by(alloc, job, run, &ByRow),
     })
+}
+
+// What `run_and_finish` answers where boards are divided so.
+fn answer_by<'a, S: Spread>(
+    alloc: Global,
+    job: Job<'a>,
+    run: &Run,
+    spread: &'a S,
+) -> Result<Outcome, WorldFault> {
+    run_and_finish(alloc, job, run.workers, spread, run.steps)
 }
 
 // The job at unit cost, without a limit.

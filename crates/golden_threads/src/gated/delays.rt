@@ -15,28 +15,32 @@ use test_worlds::{
 // So many turns the slow worker spins after each step, more than a step takes.
 const TURNS: u32 = 1000;
 
-const WORKERS: [usize; 4] = [2, 3, 4, 16];
+static WORKERS: [usize; 4] = [2, 3, 4, 16];
 
 /// Prints what is answered where the first worker is slow, and where the last is, by both spreads.
 pub fn print_runs<R: Threads + Wait + Print + AllocGlobal + Sync>(rt: &R) -> io::Result<()> {
     println!(rt; "# {FAR_START:?} at unit cost, with tables for {FAR_GROUPS:?}")?;
-    for workers in WORKERS {
-        for division in Division::HASHED {
-            print_run(rt, Team { workers, division })?;
-        }
+    for workers in &WORKERS {
+        print_run(rt, *workers, Division::ByBlank)?;
+        print_run(rt, *workers, Division::ByHash)?;
     }
     Ok(())
 }
 
-fn print_run<R: Threads + Wait + Print + AllocGlobal + Sync>(rt: &R, team: Team) -> io::Result<()> {
-    let Some((first, last)) = run(rt, rt.alloc(), team) else {
-        return Err(ErrorKind::OutOfMemory.into());
-    };
-    let Team { workers, division } = team;
-    let word = division.word();
-    println!(rt;
-        "workers {workers}, by the {word}: {first:?} where the first is slow, {last:?} where the last is"
-    )
+fn print_run<R: Threads + Wait + Print + AllocGlobal + Sync>(
+    rt: &R,
+    workers: usize,
+    division: Division,
+) -> io::Result<()> {
+    print!(rt; "workers {workers}, by the {}: ", division.word())?;
+    match run(rt, rt.alloc(), Team { workers, division }) {
+        Some((first, last)) => print_found(rt, first, last),
+        None => Err(ErrorKind::OutOfMemory.into()),
+    }
+}
+
+fn print_found(rt: &impl Print, first: Answer, last: Answer) -> io::Result<()> {
+    println!(rt; "{first:?} where the first is slow, {last:?} where the last is")
 }
 
 // What is answered where the first worker is slow, and where the last is; or None where memory was

@@ -20,39 +20,23 @@ const LEFT_BY_EACH: u64 = 256;
 /// Prints whether a limit bounds the runs of one worker, and of four, by both spreads; and whether
 /// two workers expand a board under a limit that one grant uses up.
 pub fn print_runs<R: Threads + Wait + Print + AllocGlobal + Sync>(rt: &R) -> io::Result<()> {
+    print_large(rt)?;
+    print_small(rt)
+}
+
+fn print_large<R: Threads + Wait + Print + AllocGlobal + Sync>(rt: &R) -> io::Result<()> {
     println!(rt; "# {FAR_START:?} at unit cost, limit {LIMIT}")?;
-    for division in Division::HASHED {
-        print_run(
-            rt,
-            Team {
-                workers: 1,
-                division,
-            },
-            LIMIT,
-            LIMIT,
-        )?;
-        print_run(
-            rt,
-            Team {
-                workers: 4,
-                division,
-            },
-            LIMIT,
-            LIMIT - 4 * LEFT_BY_EACH,
-        )?;
+    for division in &Division::HASHED {
+        print_run(rt, 1, *division, LIMIT, LIMIT)?;
+        print_run(rt, 4, *division, LIMIT, LIMIT - 4 * LEFT_BY_EACH)?;
     }
-    rt.println("")?;
+    rt.println("")
+}
+
+fn print_small<R: Threads + Wait + Print + AllocGlobal + Sync>(rt: &R) -> io::Result<()> {
     println!(rt; "# The same board, limit {SMALL_LIMIT}")?;
-    for division in Division::HASHED {
-        print_run(
-            rt,
-            Team {
-                workers: 2,
-                division,
-            },
-            SMALL_LIMIT,
-            1,
-        )?;
+    for division in &Division::HASHED {
+        print_run(rt, 2, *division, SMALL_LIMIT, 1)?;
     }
     rt.println("")
 }
@@ -60,16 +44,25 @@ pub fn print_runs<R: Threads + Wait + Print + AllocGlobal + Sync>(rt: &R) -> io:
 // Prints whether a run is bounded by a limit, and expands no fewer boards than it has to.
 fn print_run<R: Threads + Wait + Print + AllocGlobal + Sync>(
     rt: &R,
-    team: Team,
+    workers: usize,
+    division: Division,
     limit: u64,
     fewest: u64,
 ) -> io::Result<()> {
-    let Some((answer, expanded)) = run(rt, rt.alloc(), team, limit) else {
-        return Err(ErrorKind::OutOfMemory.into());
-    };
-    let Team { workers, division } = team;
-    let word = division.word();
-    print!(rt; "workers {workers}, by the {word}: ")?;
+    print!(rt; "workers {workers}, by the {}: ", division.word())?;
+    match run(rt, rt.alloc(), Team { workers, division }, limit) {
+        Some((answer, expanded)) => print_found(rt, answer, expanded, limit, fewest),
+        None => Err(ErrorKind::OutOfMemory.into()),
+    }
+}
+
+fn print_found(
+    rt: &impl Print,
+    answer: Answer,
+    expanded: u64,
+    limit: u64,
+    fewest: u64,
+) -> io::Result<()> {
     if is_bound(answer) && fewest <= expanded && expanded <= limit {
         return println!(rt; "a bound of 1 at least, {fewest} to {limit} boards expanded");
     }

@@ -8,7 +8,7 @@ use board::{Board, Move, Shape, Weights};
 use hda_run::{Free, Job, read_one, solve_one};
 use lower_bound::Bound;
 use outcomes::{Ending, Outcome};
-use owners::{ByBlank, Zobrist};
+use owners::{ByBlank, Spread, Zobrist};
 use std::alloc::Global;
 use std::io::{self, ErrorKind, Print};
 use test_worlds::{ByRow, Division, Problem, bound_of};
@@ -35,8 +35,20 @@ fn print_both(rt: &impl Print, case: &Case, answers: &Option<(Outcome, Ending)>)
 fn answers(alloc: Global, case: &Case) -> Option<(Outcome, Ending)> {
     let problem = problem_of(case)?;
     let bound = bound_of(alloc, &problem.goal, &problem.weights, case.groups)?;
-    let outcome = solved(alloc, &problem, &bound, case.division)?;
-    let ending = ended(alloc, &problem, &bound, case.division)?;
+    answers_with(alloc, &problem, &bound, case.division)
+}
+
+// What both answer with these tables.
+fn answers_with(
+    alloc: Global,
+    problem: &Problem,
+    bound: &Bound,
+    division: Division,
+) -> Option<(Outcome, Ending)>
+    requires { ArePotentials problem.now.weights problem.now.goal bound.now }
+{
+    let outcome = solved(alloc, problem, bound, division)?;
+    let ending = ended(alloc, problem, bound, division)?;
     Some((outcome, ending))
 }
 
@@ -68,31 +80,32 @@ fn weights_of(costs: Costs, shape: Shape) -> Weights
 fn solved(alloc: Global, problem: &Problem, bound: &Bound, division: Division) -> Option<Outcome>
     requires { ArePotentials problem.now.weights problem.now.goal bound.now }
 {
-    let shape = problem.goal.shape();
     let job = job_of(problem, bound)?;
     match division {
-        Division::ByBlank => solve_one(alloc, job, &ByBlank, &Free).ok(),
-        Division::ByHash => solve_one(alloc, job, &Zobrist::new(shape), &Free).ok(),
-        Division::ByRow => solve_one(alloc, job, &ByRow, &Free).ok(),
+        Division::ByBlank => solved_by(alloc, job, &ByBlank),
+        Division::ByHash => solved_by(alloc, job, &Zobrist::new(problem.goal.shape())),
+        Division::ByRow => solved_by(alloc, job, &ByRow),
     }
+}
+
+fn solved_by<'a, S: Spread>(alloc: Global, job: Job<'a>, spread: &'a S) -> Option<Outcome> {
+    solve_one(alloc, job, spread, &Free).ok()
 }
 
 // What `read_one` answers without rows.
 fn ended(alloc: Global, problem: &Problem, bound: &Bound, division: Division) -> Option<Ending>
     requires { ArePotentials problem.now.weights problem.now.goal bound.now }
 {
-    let shape = problem.goal.shape();
     let job = job_of(problem, bound)?;
     match division {
-        Division::ByBlank => {
-            read_one::<WithoutRows, ByBlank, Free>(alloc, job, &ByBlank, &Free).ok()
-        }
-        Division::ByHash => {
-            let spread = Zobrist::new(shape);
-            read_one::<WithoutRows, Zobrist, Free>(alloc, job, &spread, &Free).ok()
-        }
-        Division::ByRow => read_one::<WithoutRows, ByRow, Free>(alloc, job, &ByRow, &Free).ok(),
+        Division::ByBlank => ended_by(alloc, job, &ByBlank),
+        Division::ByHash => ended_by(alloc, job, &Zobrist::new(problem.goal.shape())),
+        Division::ByRow => ended_by(alloc, job, &ByRow),
     }
+}
+
+fn ended_by<'a, S: Spread>(alloc: Global, job: Job<'a>, spread: &'a S) -> Option<Ending> {
+    read_one::<WithoutRows, S, Free>(alloc, job, spread, &Free).ok()
 }
 
 // The job with these tables, or None where its parts are not of one shape.
