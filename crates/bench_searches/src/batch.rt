@@ -62,7 +62,7 @@ impl Counter {
     }
 }
 
-// What the words ask for.
+// What the arguments ask for.
 #[derive(Clone, Copy)]
 struct Asked {
     shape: Shape,
@@ -72,7 +72,7 @@ struct Asked {
     counted: bool,
 }
 
-// What the words ask for, or None where they are others than those of a batch.
+// What the arguments ask for, or None where they are none of a batch.
 fn read_words(words: &[String]) -> Option<Asked> {
     let mut words = words.iter();
     let Some(rows) = words.next() else {
@@ -241,7 +241,7 @@ where
     }
 }
 
-/// Answers the lines of the input as the words after the part's name ask for. Answers the exit
+/// Answers the lines of the input as the arguments after the part's name ask for. Returns the exit
 /// status.
 pub fn run<R, I, O>(rt: &R, words: &[String], input: I, output: O) -> u8
 where

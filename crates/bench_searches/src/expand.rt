@@ -1,9 +1,9 @@
 //! A whole search (hash-distributed A*, Kishimoto, Fukunaga, Botea 2013) by one worker on 4 by 4,
 //! with nobody to send packets to. `bench/expand` times it beside the same search in plain Rust.
 //!
-//! It prints a line when the tables are built, and another when it has stopped: after the count of
-//! expansions that it was given, or where the goal is known and no open board can lead to it at a
-//! lower cost.
+//! It prints a line when the tables are built, and another when it has stopped. It stops after the
+//! count of expansions that it was given, or where the goal is known and no open board can lead to
+//! it at a lower cost.
 
 ghost use Rattle.std.specs.Prelude.{◌≡◌, IfSome};
 ghost use Rattle.lower_bound.specs.Tables.{ArePotentials};
@@ -135,7 +135,8 @@ fn refill(
     worker.grant(book).is_ok()
 }
 
-// The count of expansions that the words name, and the groups for it; or None where they name none.
+// The count of expansions that the arguments name, and the groups for it; or None where they name
+// none.
 fn read_words(words: &[String]) -> Option<(u64, &'static [&'static [u8]])> {
     let Some(word) = words.first() else {
         return Some((1000, &SMALL_GROUPS));
@@ -189,7 +190,7 @@ fn run_guided(
     print_stop(rt, stop).ok()
 }
 
-/// Makes the search that the words after the part's name ask for, and prints where it stopped.
+/// Makes the search that the arguments after the part's name ask for, and prints where it stopped.
 /// Answers the exit status.
 pub fn run(rt: &(impl Print + AllocGlobal), words: &[String]) -> u8 {
     let Some((count, groups)) = read_words(words) else {

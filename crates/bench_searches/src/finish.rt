@@ -51,7 +51,7 @@ static GUIDED: Setup = Setup {
 // More boards than are expanded from any of the starts.
 const MANY: u64 = 1 << 30;
 
-// The setup that the words name, or None where they name none.
+// The setup that the arguments name, or None where they name none.
 fn read_words(words: &[String]) -> Option<&'static Setup> {
     let Some(word) = words.first() else {
         return Some(&SMALL);
@@ -151,8 +151,8 @@ fn search(rt: &(impl Print + AllocGlobal), world: &mut World<'_, ByBlank>) -> Op
     print_figures(rt, world).ok()
 }
 
-/// Runs the world that the words after the part's name ask for, and prints its outcome. Answers the
-/// exit status.
+/// Runs the world that the arguments after the part's name ask for, and prints its outcome. Returns
+/// the exit status.
 pub fn run(rt: &(impl Print + AllocGlobal), words: &[String]) -> u8 {
     let Some(setup) = read_words(words) else {
         return 2;

@@ -100,8 +100,8 @@ fn print_part(rt: &(impl Print + Threads + AllocGlobal + Sync), part: &Part) -> 
     }
 }
 
-/// Runs the part of this name by the words after it, and prints what it came to. Answers the exit
-/// status.
+/// Runs the part of this name by the arguments after it, and prints what it came to. Returns the
+/// exit status.
 pub fn run(rt: &(impl Print + Threads + AllocGlobal + Sync), name: &str, words: &[String]) -> u8 {
     let Some(part) = read_words(rt.alloc(), name, words) else {
         return 2;

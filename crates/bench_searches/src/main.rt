@@ -84,7 +84,7 @@ fn read_words(rt: &(impl Env + AllocGlobal)) -> Option<Vec<String>> {
     env::args(rt).ok()?.skip(1).collect(rt.alloc()).ok()
 }
 
-// Runs what the words name, and answers the exit status.
+// Runs what the arguments name, and returns the exit status.
 fn run_words<R>(rt: &R, words: &[String], input: Stdin, output: Stdout) -> u8
 where
     R: Threads + Wait + Print + Eprint + AllocGlobal + Sync,
@@ -113,7 +113,7 @@ where
     0
 }
 
-// Runs a part by the words after its name, and answers the exit status.
+// Runs a part by the arguments after its name, and returns the exit status.
 fn run_part<R>(rt: &R, part: &str, words: &[String], input: Stdin, output: Stdout) -> u8
 where
     R: Threads + Wait + Print + Eprint + AllocGlobal + Sync,

@@ -162,7 +162,7 @@ fn answers_to<R: Threads + Wait + Sync>(
     Some((one, many))
 }
 
-// The seed and the count that the words name, or None where they name none.
+// The seed and the count that the arguments name, or None where they name none.
 fn read_words(words: &[String]) -> Option<(u64, u64)> {
     let mut words = words.iter();
     let Some(seed) = words.next() else {
@@ -203,8 +203,8 @@ fn print_walk(rt: &impl Print, walk: &Walk) -> io::Result<()> {
     )
 }
 
-/// Solves the boards that the words after the part's name ask for, and prints the answers. Answers
-/// the exit status: 1 where an answer differs from that of one worker, or memory was refused.
+/// Solves the boards that the arguments after the part's name ask for, and prints the answers.
+/// Returns the exit status: 1 where an answer differs from that of one worker, or memory was refused.
 pub fn run<R: Threads + Wait + Print + AllocGlobal + Sync>(rt: &R, words: &[String]) -> u8 {
     let Some((seed, count)) = read_words(words) else {
         return 2;

@@ -1,6 +1,6 @@
-//! Alters one row at a time, at 500 places spread over a certificate of a board that is as far from
-//! the goal as one of 3 by 3 can be, which is made without groups, and prints what the checker says
-//! of these, by one thread and by several.
+//! Alters one row at a time, at 500 places spread over a certificate, and prints what the checker
+//! says of these, by one thread and by several. The certificate is of a board that is as far from
+//! the goal as one of 3 by 3 can be, and is made without groups.
 
 use crate::problems::{Costs, certificate_of, problem_at};
 use board::Move;

@@ -1,6 +1,6 @@
-//! Prints what is answered of a board that is as far from the goal as one of 3 by 3 can be, where
-//! the checker has to accept the plan: with the tables of the search built anew, with these folded,
-//! and with tables of other problems.
+//! Prints what is answered of a board where the checker has to accept the plan. The checker's tables
+//! are those of the search built anew, these folded, and those of other problems. The board is as far
+//! from the goal as one of 3 by 3 can be.
 
 ghost use Rattle.std.specs.Prelude.{◌≡◌, IfSome};
 ghost use Rattle.lower_bound.specs.Tables.{ArePotentials};

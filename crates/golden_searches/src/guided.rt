@@ -1,7 +1,9 @@
-//! Tries searches that tables guide: lines whose reports or certificates are known, and each board
-//! of 2 by 2 and of 2 by 3, without tables and with those of each partition of the tiles into at
-//! most three groups, whole and folded, beside a breadth-first search; and some boards of 3 by 3,
-//! with whole tables and with folded ones.
+//! Tries searches that tables guide:
+//!
+//! - lines whose reports or certificates are known;
+//! - each board of 2 by 2 and of 2 by 3, beside a breadth-first search: without tables, and with
+//!   those of each partition of the tiles into at most three groups, whole and folded;
+//! - some boards of 3 by 3, with whole tables and with folded ones.
 //!
 //! An answer of a board is wrong where its cost is not the least, where a plan is found and there
 //! is none or none is found and there is one, and where the checker refuses its certificate.
@@ -22,7 +24,7 @@ use std::io::{self, ErrorKind, Print};
 use std::sync::Wait;
 use std::thread::Threads;
 
-// No more bytes are printed. In a longer certificate other rows may stand where other boards are
+// No more bytes are printed. In a longer certificate the rows may differ where other boards are
 // met first.
 const MOST_SHOWN: usize = 100;
 

@@ -1,6 +1,6 @@
 //! Tries weights that are drawn at random: all boards of 2 by 2 and of 2 by 3 with ten lists of
-//! weights each, without tables and with those of two partitions of the tiles, whole and folded,
-//! beside a breadth-first search.
+//! weights each, beside a breadth-first search. The tables are none, and those of two partitions of
+//! the tiles, whole and folded.
 //!
 //! An answer is wrong where its cost is not the least, where a plan is found and there is none or
 //! none is found and there is one, and where the checker refuses its certificate.
@@ -230,7 +230,7 @@ fn draw_weights(words: &mut SplitMix64, shape: Shape, number: usize) -> Option<W
     Weights::list(shape, listed).ok()
 }
 
-// The weight that a word stands for.
+// The weight that a word gives.
 fn weight_of(word: u64, number: usize) -> u8 {
     let most = if number % 2 == 0 { 255 } else { 3 };
     ((word % most) as u8).saturating_add(1)

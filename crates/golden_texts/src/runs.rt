@@ -1,7 +1,7 @@
 //! Runs the program `tilesolve` once for each row of words with an input, and prints for each row
 //! what it answered.
 //!
-//! A row is a line of the input that begins with no `#` and has a tab: the words, with a space
+//! A row is a line of the input that begins with no `#` and has a tab: arguments with a space
 //! between two, then the tab, then the input in escapes. `\n`, `\r`, `\t` and `\\` are one byte each,
 //! and so is `\x` with two hexadecimal digits.
 //!
@@ -63,7 +63,7 @@ fn answer_to(
     Ok(text)
 }
 
-// The bytes that a text in escapes stands for, or `None` where a backslash begins no escape.
+// The bytes of a text in escapes, or `None` where a backslash begins no escape.
 fn unescape(alloc: Global, text: &str) -> io::Result<Option<Vec<u8>>> {
     let mut bytes = Vec::new(alloc);
     let mut rest = text.as_bytes();
@@ -77,7 +77,7 @@ fn unescape(alloc: Global, text: &str) -> io::Result<Option<Vec<u8>>> {
     Ok(Some(bytes))
 }
 
-// The first byte that a text in escapes stands for, and the text after it.
+// The first byte of a text in escapes, and the text after it.
 fn first_byte(text: &[u8]) -> Option<(u8, &[u8])>
     ensures { IfSome result (λ first. length first.1.now < length text.now) }
 {

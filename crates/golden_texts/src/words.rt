@@ -1,9 +1,9 @@
-//! What rows of words ask for.
+//! What rows of arguments ask for.
 //!
-//! A row is a line of the input that begins with no `#` and has no tab: the words after the program's
-//! name, with a space between two. What is printed is the row behind `$ tilesolve`, and then what is
-//! asked for: the subcommand and what its options say, or the text that the words ask for behind
-//! `> `. Where nothing is asked for, it is the status, and what goes to standard error behind `! `.
+//! A row is a line of the input that begins with no `#` and has no tab: the program's arguments, with
+//! a space between two. What is printed is the row behind `$ tilesolve`, and then what is asked for:
+//! the subcommand and what its options say, or the text that is asked for, behind `> `. Where nothing
+//! is asked for, it is the status, and what goes to standard error behind `! `.
 
 use batch_runs::SpreadKind;
 use board::{Board, Weights};

@@ -23,7 +23,7 @@ struct Count {
     right: u64,
 }
 
-/// Prints of how many boards of 2 by 2, and of 2 by 3, so many workers find the least cost.
+/// Prints for how many boards of 2 by 2, and of 2 by 3, each number of workers finds the least cost.
 pub fn print_counts<R: Threads + Wait + Print + AllocGlobal + Sync>(rt: &R) -> io::Result<()> {
     print_shape(rt, 2, 2)?;
     print_shape(rt, 2, 3)?;

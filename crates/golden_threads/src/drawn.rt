@@ -90,7 +90,7 @@ fn draw_steps(alloc: Global, count: usize) -> Result<Vec<Step>, OutOfMemory> {
     Ok(steps)
 }
 
-// The step that a word stands for: its kind, and one or two workers.
+// The step that a word says: its kind, and one or two workers.
 fn step_of(word: u64) -> Step {
     let first = (word / 16 % 3) as usize;
     let second = (word / 256 % 3) as usize;

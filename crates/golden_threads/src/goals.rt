@@ -21,7 +21,7 @@ static STARTS: [[u8; 9]; 3] = [
     [1, 2, 3, 4, 0, 5, 6, 7, 8],
 ];
 
-// So many moves a goal is away at most.
+// The most moves that a goal is away.
 const FARTHEST: u32 = 3;
 
 // How many workers go there at most.
@@ -89,7 +89,7 @@ fn count_boards<R: Threads + Wait + Sync>(
     Some(count)
 }
 
-// Counts the runs to a goal that is so many moves away.
+// Counts the runs to a goal that is this many moves away.
 fn count_goal<R: Threads + Wait + Sync>(
     count: &mut Count,
     rt: &R,
@@ -151,8 +151,9 @@ fn count_team<R: Threads + Wait + Sync>(
     }
 }
 
-// The boards up to so many moves away, each with the fewest moves that lead there: first the start
-// itself, and then round by round those that were not met before. None where memory was refused.
+// The boards up to `FARTHEST` moves away, each with the fewest moves that lead there: first the
+// start itself, and then round by round those that were not met before. None where memory was
+// refused.
 fn boards_near(alloc: Global, start: Board) -> Option<Vec<(Board, u32)>> {
     let mut met = Vec::new(alloc);
     push(&mut met, (start, 0)).ok()?;

@@ -29,11 +29,11 @@ const HELD: usize = 1;
 // The worker that lets it go by a settled item.
 const OTHER: usize = 0;
 
-// So often the held worker looks at most.
+// How often the held worker looks at most.
 const MOST_TURNS: u32 = 50_000_000;
 
 // Holds worker 1 after its first packet until worker 0 has settled an item. Where that doesn't
-// come, worker 1 goes on after so many turns, and this is noted.
+// come, worker 1 goes on after `MOST_TURNS` turns, and this is noted.
 #[derive(Drop)]
 struct Hold {
     sent: AtomicBool,

@@ -36,7 +36,7 @@ pub fn walk_from_goal(shape: Shape, steps: u32) -> Walk
     walk
 }
 
-// The move that the two highest bits of a state stand for. The lower bits of such states repeat
+// The move that the two highest bits of a state encode. The lower bits of such states repeat
 // sooner.
 fn direction_of(state: u64) -> Move {
     match state >> 62 {

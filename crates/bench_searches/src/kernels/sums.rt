@@ -21,7 +21,7 @@ const NUMBERS: [u8; 25] = [
     0, 1, 2, 3, 4, 5, 6, 7, 8, 9, 10, 11, 12, 13, 14, 15, 16, 17, 18, 19, 20, 21, 22, 23, 24,
 ];
 
-// How many numbers a word of 64 bits stands for.
+// How many numbers a word of 64 bits has.
 const WORD: u128 = 18_446_744_073_709_551_616;
 
 /// Draws this many boards of the groups' shape, and finds `rounds` times what their moves offer to

@@ -11,9 +11,8 @@ use database_build::{Folded, Frame, NO_VALUE, Table, build_folded_in, build_in};
 use pattern_index::Group;
 use std::alloc::Global;
 
-/// What the values of a table come to: their count, the highest of those that stand for a cost,
-/// their sum, and a number into which all of them are mixed in order (FNV-1a with a value in place
-/// of a byte).
+/// What the values of a table come to: their count, the highest cost among them, their sum, and a
+/// number into which all of them are mixed in order. That is FNV-1a with a value in place of a byte.
 #[derive(Clone, Copy)]
 pub struct Summary {
     pub views: usize,

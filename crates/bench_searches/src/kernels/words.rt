@@ -38,8 +38,8 @@ pub enum Part {
     Containers(usize),
 }
 
-/// The part of a name by the words after it, or by its small run without words. `None` where they name
-/// no part, or there is no memory for it.
+/// The part of a name by the arguments after it, or by its small run without arguments. `None` where
+/// they name no part, or there is no memory for it.
 pub fn read_words(alloc: Global, name: &str, words: &[String]) -> Option<Part> {
     if words.is_empty() {
         return read_part(alloc, name, small(name));

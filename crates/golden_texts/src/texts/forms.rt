@@ -18,7 +18,7 @@ pub fn print(rt: &(impl Print + AllocGlobal), refused: OutOfMemory) -> io::Resul
     print_figures(rt)
 }
 
-// An outcome whose plans are slices, so that it can stand in a table.
+// An outcome whose plans are slices, so that it can be part of a table.
 #[derive(Clone, Copy)]
 enum Answer {
     Optimal(u32, &'static [Move]),

@@ -12,7 +12,7 @@ use test_worlds::{
     far_problem,
 };
 
-// So many turns the slow worker spins after each step, more than a step takes.
+// How many turns the slow worker spins after each step: more than a step takes.
 const TURNS: u32 = 1000;
 
 static WORKERS: [usize; 4] = [2, 3, 4, 16];

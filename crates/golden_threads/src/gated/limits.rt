@@ -14,7 +14,7 @@ const LIMIT: u64 = 4000;
 // One grant may use it up. No contract says that a board is expanded under such a limit.
 const SMALL_LIMIT: u64 = 200;
 
-// So many expansions are granted to a worker at most that it may leave.
+// The most expansions that are granted to a worker and that it may leave.
 const LEFT_BY_EACH: u64 = 256;
 
 /// Prints whether a limit bounds the runs of one worker, and of four, by both spreads; and whether
