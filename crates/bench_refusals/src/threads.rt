@@ -231,23 +231,20 @@ fn print_verdict<R: Print + Eprint + AllocGlobal + Threads + Wait + Sync>(
     rt: &R,
     call: &Call,
 ) -> u8 {
-    let name = call.name;
     match verdict_on(rt, rt.alloc(), call) {
-        Verdict::Whole => {
-            let _ = println!(rt; "{name} whole");
-            0
-        }
-        Verdict::Cost => {
-            let _ = println!(rt; "{name} bounded by its cost");
-            0
-        }
-        Verdict::Refused => {
-            let _ = println!(rt; "{name} refused");
-            0
-        }
-        Verdict::Wrong(answer) => {
-            let _ = eprintln!(rt; "bench_refusals: {name}: {answer:?}");
-            1
-        }
+        Verdict::Whole => print_lawful(rt, call.name, "whole"),
+        Verdict::Cost => print_lawful(rt, call.name, "bounded by its cost"),
+        Verdict::Refused => print_lawful(rt, call.name, "refused"),
+        Verdict::Wrong(answer) => print_wrong(rt, call.name, answer),
     }
+}
+
+fn print_lawful(rt: &impl Print, name: &str, text: &str) -> u8 {
+    let _ = println!(rt; "{name} {text}");
+    0
+}
+
+fn print_wrong(rt: &impl Eprint, name: &str, answer: Answer) -> u8 {
+    let _ = eprintln!(rt; "bench_refusals: {name}: {answer:?}");
+    1
 }

@@ -52,6 +52,21 @@ const CUT_OFF: [u8; 36] = [
     0, 0, 0, 0, 0, 0, 0, 1, // the count of rows
 ];
 
+/// Makes the call of this name, or answers None where it is none of these.
+pub fn call<R: Threads + Wait + AllocGlobal + Sync>(rt: &R, name: &str) -> Option<Answer> {
+    match name {
+        "read" => Some(read_certificate(rt.alloc())),
+        "cut-off" => Some(read_announcement(rt.alloc())),
+        "batch" => Some(run_two_lines(rt)),
+        "batch-line" => Some(run_one_line(rt)),
+        "write" => Some(write_certificate(rt)),
+        "write-groups" => Some(write_groups(rt)),
+        "check" => Some(check_certificate(rt)),
+        "check-groups" => Some(check_groups(rt)),
+        _ => None,
+    }
+}
+
 // Korf's goal of 2 by 2, at unit cost.
 fn plain(alloc: Global) -> Setup {
     let shape = Shape::new(2, 2).unwrap();
@@ -72,8 +87,8 @@ fn page(alloc: Global) -> Result<ByteSink<Vec<u8>>, OutOfMemory> {
     Ok(ByteSink::new(with_capacity(alloc, 200)?))
 }
 
-/// Reports two lines that need no search.
-pub fn run_two_lines<R: Threads + Wait + AllocGlobal + Sync>(rt: &R) -> Answer {
+// Reports two lines that need no search.
+fn run_two_lines<R: Threads + Wait + AllocGlobal + Sync>(rt: &R) -> Answer {
     let due = b"{\"id\":\"a\",\"status\":\"unsolvable\",\"why\":\"parity\"}\n\
         {\"fault\":\"E2\",\"line\":2,\"status\":\"refused\"}\n";
     let Ok(mut page) = page(rt.alloc()) else {
@@ -92,9 +107,9 @@ pub fn run_two_lines<R: Threads + Wait + AllocGlobal + Sync>(rt: &R) -> Answer {
     }
 }
 
-/// Reports a line whose board is searched for. Where memory is refused, the report may be of the
-/// want of memory.
-pub fn run_one_line<R: Threads + Wait + AllocGlobal + Sync>(rt: &R) -> Answer {
+// Reports a line whose board is searched for. Where memory is refused, the report may be of the
+// want of memory.
+fn run_one_line<R: Threads + Wait + AllocGlobal + Sync>(rt: &R) -> Answer {
     let due = b"{\"cost\":1,\"id\":\"r\",\"plan\":\"L\",\"status\":\"optimal\"}\n";
     let Some(setup) = guided(rt, rt.alloc()) else {
         return Answer::Refused;
@@ -115,15 +130,15 @@ pub fn run_one_line<R: Threads + Wait + AllocGlobal + Sync>(rt: &R) -> Answer {
     }
 }
 
-/// Writes the certificate of a line's board. Where memory is refused, a report may stand in its
-/// place, or nothing.
-pub fn write_certificate<R: Threads + Wait + AllocGlobal + Sync>(rt: &R) -> Answer {
+// Writes the certificate of a line's board. Where memory is refused, a report may stand in its
+// place, or nothing.
+fn write_certificate<R: Threads + Wait + AllocGlobal + Sync>(rt: &R) -> Answer {
     let setup = plain(rt.alloc());
     certify(rt, &setup, "r 1 0 2 3\n", &ONE_MOVE)
 }
 
-/// The same with groups, whose tables are built before.
-pub fn write_groups<R: Threads + Wait + AllocGlobal + Sync>(rt: &R) -> Answer {
+// The same with groups, whose tables are built before.
+fn write_groups<R: Threads + Wait + AllocGlobal + Sync>(rt: &R) -> Answer {
     match guided(rt, rt.alloc()) {
         Some(setup) => certify(rt, &setup, "r 1 0 2 3\n", &ONE_MOVE_BY_TABLES),
         None => Answer::Refused,
@@ -165,13 +180,13 @@ fn is_for_want_of_memory(report: &[u8]) -> bool {
         || report.ends_with(b"\"cause\":\"memory\",\"id\":\"r\",\"status\":\"bounded\"}\n")
 }
 
-/// Checks a certificate that is to be accepted, without groups.
-pub fn check_certificate<R: Threads + AllocGlobal + Sync>(rt: &R) -> Answer {
+// Checks a certificate that is to be accepted, without groups.
+fn check_certificate<R: Threads + AllocGlobal + Sync>(rt: &R) -> Answer {
     check(rt, &ONE_MOVE)
 }
 
-/// The same with groups, whose tables are built.
-pub fn check_groups<R: Threads + AllocGlobal + Sync>(rt: &R) -> Answer {
+// The same with groups, whose tables are built.
+fn check_groups<R: Threads + AllocGlobal + Sync>(rt: &R) -> Answer {
     check(rt, &ONE_MOVE_BY_TABLES)
 }
 
@@ -198,8 +213,8 @@ fn check<R: Threads + AllocGlobal + Sync>(rt: &R, bytes: &[u8]) -> Answer {
     }
 }
 
-/// Reads the bytes that spell a certificate.
-pub fn read_certificate(alloc: Global) -> Answer {
+// Reads the bytes that spell a certificate.
+fn read_certificate(alloc: Global) -> Answer {
     let mut source = ByteSource::new(LONGER.as_slice());
     match read(alloc, &mut source) {
         Ok(certificate) => whole_if(
@@ -218,9 +233,9 @@ fn move_count(claim: &Claim) -> Option<usize> {
     }
 }
 
-/// Reads bytes that end where the rows are due. Memory is taken for rows that are there, so the end
-/// is answered whatever is refused.
-pub fn read_announcement(alloc: Global) -> Answer {
+// Reads bytes that end where the rows are due. Memory is taken for rows that are there, so the end
+// is answered whatever is refused.
+fn read_announcement(alloc: Global) -> Answer {
     let mut source = ByteSource::new(CUT_OFF.as_slice());
     match read(alloc, &mut source) {
         Err(ReadFault::Format(FormatFault::Truncated)) => Answer::Whole,

@@ -29,6 +29,17 @@ const BEHIND_UP: [u8; 16] = [1, 0, 2, 3, 4, 5, 6, 7, 8, 9, 10, 11, 12, 13, 14, 1
 
 const BEHIND_DOWN: [u8; 16] = [1, 5, 2, 3, 4, 9, 6, 7, 8, 0, 10, 11, 12, 13, 14, 15];
 
+/// Makes the call of this name, or answers None where it is none of these.
+pub fn call(alloc: Global, name: &str) -> Option<Answer> {
+    match name {
+        "meet" => Some(meet_board(alloc)),
+        "settle" => Some(settle_items(alloc)),
+        "expand" => Some(expand_board(alloc)),
+        "expand-more" => Some(expand_in_full_table(alloc)),
+        _ => None,
+    }
+}
+
 // What a worker has, its lists as numbers that are made of all that is in them.
 #[derive(Clone, Copy, PartialEq, Eq)]
 struct Standing {
@@ -204,8 +215,8 @@ fn if_so(answer: Answer, is_so: bool, why: &'static str) -> Answer {
     if is_so { answer } else { Answer::Wrong(why) }
 }
 
-/// Meets a board, at a cost for which the list of buckets grows.
-pub fn meet_board(alloc: Global) -> Answer {
+// Meets a board, at a cost for which the list of buckets grows.
+fn meet_board(alloc: Global) -> Answer {
     let Some(job) = job(alloc) else {
         return Answer::Wrong("no job");
     };
@@ -252,8 +263,8 @@ fn hold_two(
     worker.deliver(&mut lane).ok()
 }
 
-/// Settles two items, one after the other.
-pub fn settle_items(alloc: Global) -> Answer {
+// Settles two items, one after the other.
+fn settle_items(alloc: Global) -> Answer {
     let Some(job) = job(alloc) else {
         return Answer::Wrong("no job");
     };
@@ -288,8 +299,8 @@ fn settle_two(
     if_so(both(first, second), is_so, "not settled so")
 }
 
-/// Expands a board, for whose moves the list of buckets grows, and two buckets.
-pub fn expand_board(alloc: Global) -> Answer {
+// Expands a board, for whose moves the list of buckets grows, and two buckets.
+fn expand_board(alloc: Global) -> Answer {
     let Some(job) = job(alloc) else {
         return Answer::Wrong("no job");
     };
@@ -304,9 +315,9 @@ pub fn expand_board(alloc: Global) -> Answer {
     if_so(both(met, expanded), is_so, "not expanded so")
 }
 
-/// Expands a board where the table of known boards is full but for three places, so that the table
-/// grows too.
-pub fn expand_in_full_table(alloc: Global) -> Answer {
+// Expands a board where the table of known boards is full but for three places, so that the table
+// grows too.
+fn expand_in_full_table(alloc: Global) -> Answer {
     let Some(job) = job(alloc) else {
         return Answer::Wrong("no job");
     };

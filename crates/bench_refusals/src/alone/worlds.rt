@@ -19,6 +19,15 @@ const TURNS: u32 = 60;
 // More items than one packet has here.
 const ITEMS: u32 = 4;
 
+/// Makes the call of this name, or answers None where it is none of these.
+pub fn call(alloc: Global, name: &str) -> Option<Answer> {
+    match name {
+        "world" => Some(open_world(alloc)),
+        "finish" => Some(finish_world(alloc)),
+        _ => None,
+    }
+}
+
 // A board of 2 by 2 whose least plans have six moves, and worker 0 owns it.
 fn start() -> Option<Board> {
     Board::from_tiles(Shape::new(2, 2).unwrap(), &[3, 2, 1, 0]).ok()
@@ -39,8 +48,8 @@ fn job_of<'a>(start: Board, bound: &'a Bound) -> Option<Job<'a>>
     .ok()
 }
 
-/// Opens a world.
-pub fn open_world(alloc: Global) -> Answer {
+// Opens a world.
+fn open_world(alloc: Global) -> Answer {
     let Some(start) = start() else {
         return Answer::Wrong("no board");
     };
@@ -65,9 +74,9 @@ fn is_opening(world: &World<'_, ByBlank>) -> bool {
     world.workers() == WORKERS && world.book().stop().is_none()
 }
 
-/// Finishes a world whose workers have ended. A step for which memory is refused is taken in a later
-/// turn.
-pub fn finish_world(alloc: Global) -> Answer {
+// Finishes a world whose workers have ended. A step for which memory is refused is taken in a later
+// turn.
+fn finish_world(alloc: Global) -> Answer {
     let Some(start) = start() else {
         return Answer::Wrong("no board");
     };
