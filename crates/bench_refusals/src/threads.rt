@@ -37,7 +37,7 @@ struct Call {
     solver: Solver,
 }
 
-// Whose blank goes round once.
+// A board whose blank goes round once.
 const SQUARE: Call = Call {
     name: "two-by-blank",
     cols: 2,
@@ -51,7 +51,7 @@ const SQUARE: Call = Call {
     solver: Solver::Solve,
 };
 
-// Nine moves from the goal.
+// A board nine moves from the goal.
 const OBLONG: Call = Call {
     name: "three-by-hash",
     cols: 3,

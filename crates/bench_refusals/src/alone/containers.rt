@@ -15,7 +15,7 @@ pub fn call(alloc: Global, name: &str) -> Option<Answer> {
     }
 }
 
-// What stands in a list of one entry: the lowest, the entry, and none but that.
+// Whether the least f of an open list is 2, and its next entry has key 7 and cost 1.
 fn has_one_entry(open: &Open<u32>) -> bool {
     open.lowest() == Some(2) && open.peek_lowest(3) == Some((7, 1))
 }
@@ -49,7 +49,7 @@ fn reserve_entries(alloc: Global, open: &mut Open<u32>) -> Answer {
     }
 }
 
-// What stands in a table of one board.
+// Whether a table knows one board, the one that is added here, as it was added.
 fn has_one_board(closed: &Closed) -> bool {
     let Some(known) = closed.get(7) else {
         return false;

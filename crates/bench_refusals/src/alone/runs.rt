@@ -44,7 +44,7 @@ const LONGER: [u8; 85] = [
     0x02, 0x02, 0x00, 0x00, 0x00,
 ];
 
-// No moves, and more rows announced than memory holds, none of which is there.
+// A certificate without moves that announces more rows than memory holds, and ends before them.
 const CUT_OFF: [u8; 36] = [
     0x54, 0x49, 0x4c, 0x45, 0x43, 0x52, 0x54, 0x31, 2, 2, 0, 0, // the opening
     1, 0, 2, 3, 0, 1, 2, 3, // start and goal
@@ -107,8 +107,7 @@ fn run_two_lines<R: Threads + Wait + AllocGlobal + Sync>(rt: &R) -> Answer {
     }
 }
 
-// Reports a line whose board is searched for. Where memory is refused, the report may be of the
-// want of memory.
+// Reports a line whose board takes a search. Where memory is refused, the report may say so.
 fn run_one_line<R: Threads + Wait + AllocGlobal + Sync>(rt: &R) -> Answer {
     let due = b"{\"cost\":1,\"id\":\"r\",\"plan\":\"L\",\"status\":\"optimal\"}\n";
     let Some(setup) = guided(rt, rt.alloc()) else {
@@ -130,8 +129,8 @@ fn run_one_line<R: Threads + Wait + AllocGlobal + Sync>(rt: &R) -> Answer {
     }
 }
 
-// Writes the certificate of a line's board. Where memory is refused, a report may stand in its
-// place, or nothing.
+// Writes the certificate of a line's board. Where memory is refused, it may write a report instead,
+// or nothing.
 fn write_certificate<R: Threads + Wait + AllocGlobal + Sync>(rt: &R) -> Answer {
     let setup = plain(rt.alloc());
     certify(rt, &setup, "r 1 0 2 3\n", &ONE_MOVE)
@@ -225,7 +224,7 @@ fn read_certificate(alloc: Global) -> Answer {
     }
 }
 
-// How many moves a plan has that is claimed.
+// The number of moves of the plan that is claimed, or None where only a bound is.
 fn move_count(claim: &Claim) -> Option<usize> {
     match claim {
         Claim::Least { plan, .. } => Some(plan.len()),

@@ -30,8 +30,8 @@ pub fn call<R: Threads + AllocGlobal + Sync>(rt: &R, name: &str) -> Option<Answe
     }
 }
 
-// Solves a board of two rows for Korf's goal, at face cost or else at unit cost. Its least plan is
-// known to cost so much, or it is known to be of another class.
+// Solves a board of two rows for Korf's goal, at face cost or else at unit cost. The cost of its
+// least plan is known, or None is given for a board of another class.
 fn search(alloc: Global, cols: u8, tiles: &[u8], at_face_cost: bool, least: Option<u32>) -> Answer {
     let Ok(shape) = Shape::new(2, cols) else {
         return Answer::Wrong("no shape");

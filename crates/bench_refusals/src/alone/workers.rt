@@ -40,7 +40,7 @@ pub fn call(alloc: Global, name: &str) -> Option<Answer> {
     }
 }
 
-// What a worker has, its lists as numbers that are made of all that is in them.
+// What a worker has. Each list is given as a number made of all that is in it.
 #[derive(Clone, Copy, PartialEq, Eq)]
 struct Standing {
     count: usize,
@@ -125,7 +125,7 @@ fn item(job: &Job, tiles: &[u8], cost: u32) -> Option<Item> {
     })
 }
 
-// Whether a worker knows a board so.
+// Whether a worker knows a board by this cost and this move, and expanded or not as given.
 fn knows(worker: &Worker<Plain>, job: &Job, row: (&[u8], u32, Move, bool)) -> bool {
     let (tiles, cost, via, expanded) = row;
     let Ok(board) = Board::from_tiles(job.goal.shape(), tiles) else {
@@ -210,7 +210,7 @@ fn both(first: Answer, second: Answer) -> Answer {
     }
 }
 
-// The answer, where this is so at last.
+// The answer where it is so at last, or else that it is wrong for this reason.
 fn if_so(answer: Answer, is_so: bool, why: &'static str) -> Answer {
     if is_so { answer } else { Answer::Wrong(why) }
 }
@@ -315,8 +315,7 @@ fn expand_board(alloc: Global) -> Answer {
     if_so(both(met, expanded), is_so, "not expanded so")
 }
 
-// Expands a board where the table of known boards is full but for three places, so that the table
-// grows too.
+// Expands a board where the table of known boards has three places left, so that it grows too.
 fn expand_in_full_table(alloc: Global) -> Answer {
     let Some(job) = job(alloc) else {
         return Answer::Wrong("no job");
@@ -388,7 +387,7 @@ fn numbered_tiles(number: usize) -> [u8; 16] {
     tiles
 }
 
-// Whether a worker that knew the start at no cost has expanded it, and knows so many boards now.
+// Whether a worker that knew the start at no cost has expanded it, and knows this many boards now.
 fn is_expanded(worker: &Worker<Plain>, job: &Job, known: usize) -> bool {
     knows(worker, job, (&START, 0, Move::U, true))
         && knows(worker, job, (&BEHIND_UP, 5, Move::U, false))

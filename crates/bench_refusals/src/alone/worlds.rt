@@ -24,7 +24,7 @@ fn start() -> Option<Board> {
     Board::from_tiles(Shape::new(2, 2).unwrap(), &[3, 2, 1, 0]).ok()
 }
 
-// To solve it for Korf's goal at unit cost.
+// The job to solve it for Korf's goal at unit cost.
 fn job_of<'a>(start: Board, bound: &'a Bound) -> Option<Job<'a>>
     requires { (bound.now.lookups ≡ []) × (bound.now.folds ≡ []) }
 {
