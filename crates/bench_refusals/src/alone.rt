@@ -8,22 +8,12 @@ mod workers;
 mod worlds;
 
 use crate::is_refused;
-use containers::{reserve_closed, reserve_open};
-use databases::{build_folds, build_tables, copy_partition, fold_bound, fold_setup, fold_table};
-use runs::{
-    check_certificate, check_groups, read_announcement, read_certificate, run_one_line,
-    run_two_lines, write_certificate, write_groups,
-};
-use searches::{search, search_with_tables};
-use std::alloc::Global;
 use std::io::{Eprint, Print};
 use std::sync::Wait;
 use std::thread::Threads;
-use workers::{expand_board, expand_in_full_table, meet_board, settle_items};
-use worlds::{finish_world, open_world};
 
 // The names of all calls.
-const CALLS: [&str; 28] = [
+static CALLS: [&str; 28] = [
     "partition",
     "table",
     "fold",
@@ -56,38 +46,12 @@ const CALLS: [&str; 28] = [
 
 // Makes the call of this name, or answers None where there is none.
 fn call<R: Threads + Wait + AllocGlobal + Sync>(rt: &R, name: &str) -> Option<Answer> {
-    let alloc = rt.alloc();
-    match name {
-        "partition" => Some(copy_partition(alloc)),
-        "table" => Some(build_tables(alloc)),
-        "fold" => Some(fold_table(alloc)),
-        "fold-bound" => Some(fold_bound(alloc)),
-        "fold-setup" => Some(fold_setup(rt)),
-        "folded" => Some(build_folds(rt)),
-        "unit-2x2" => Some(search(alloc, 2, &[3, 2, 1, 0], false, Some(6))),
-        "face-2x2" => Some(search(alloc, 2, &[3, 2, 1, 0], true, Some(12))),
-        "unit-2x3" => Some(search(alloc, 3, &[2, 3, 5, 0, 1, 4], false, Some(9))),
-        "face-2x3" => Some(search(alloc, 3, &[2, 3, 5, 0, 1, 4], true, Some(22))),
-        "with-tables" => Some(search_with_tables(rt)),
-        "no-plan" => Some(search(alloc, 2, &[0, 2, 1, 3], false, None)),
-        "read" => Some(read_certificate(alloc)),
-        "cut-off" => Some(read_announcement(alloc)),
-        "batch" => Some(run_two_lines(rt)),
-        "batch-line" => Some(run_one_line(rt)),
-        "write" => Some(write_certificate(rt)),
-        "write-groups" => Some(write_groups(rt)),
-        "check" => Some(check_certificate(rt)),
-        "check-groups" => Some(check_groups(rt)),
-        "open" => Some(reserve_open(alloc)),
-        "closed" => Some(reserve_closed(alloc)),
-        "meet" => Some(meet_board(alloc)),
-        "settle" => Some(settle_items(alloc)),
-        "expand" => Some(expand_board(alloc)),
-        "expand-more" => Some(expand_in_full_table(alloc)),
-        "world" => Some(open_world(alloc)),
-        "finish" => Some(finish_world(alloc)),
-        _ => None,
-    }
+    databases::call(rt, name)
+        .or(searches::call(rt, name))
+        .or(runs::call(rt, name))
+        .or(containers::call(rt.alloc(), name))
+        .or(workers::call(rt.alloc(), name))
+        .or(worlds::call(rt.alloc(), name))
 }
 
 // What is printed of an answer, or why it is wrong. Where memory is refused only after the call,
@@ -105,7 +69,7 @@ fn judge(answer: Answer, is_refused_later: bool) -> Result<&'static str, &'stati
 /// Makes each call, and answers the exit status.
 pub fn make_all<R: Print + Eprint + AllocGlobal + Threads + Wait + Sync>(rt: &R) -> u8 {
     let mut status = 0;
-    for name in CALLS {
+    for name in &CALLS {
         status = status.max(make(rt, name).unwrap_or(2));
     }
     status

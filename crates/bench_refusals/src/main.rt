@@ -22,7 +22,7 @@ use std::rt::Env;
 use std::sync::Wait;
 use std::thread::Threads;
 
-const PARTS: [&str; 2] = ["alone", "threads"];
+static PARTS: [&str; 2] = ["alone", "threads"];
 
 fn main(rt: HostRuntime) -> ExitCode {
     let mut part = [0; 16];
@@ -56,7 +56,7 @@ fn read_word<'a>(rt: &impl Env, place: usize, buffer: &'a mut [u8]) -> Option<&'
 // Makes each call of each part, and answers the exit status.
 fn make_all<R: Threads + Wait + Print + Eprint + AllocGlobal + Sync>(rt: &R) -> u8 {
     let mut status = 0;
-    for part in PARTS {
+    for part in &PARTS {
         let _ = println!(rt; "== {part}");
         status = status.max(make_part(rt, part));
     }

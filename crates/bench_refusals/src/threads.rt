@@ -37,7 +37,7 @@ struct Call {
     solver: Solver,
 }
 
-// Whose blank goes round once.
+// A board whose blank goes round once.
 const SQUARE: Call = Call {
     name: "two-by-blank",
     cols: 2,
@@ -51,7 +51,7 @@ const SQUARE: Call = Call {
     solver: Solver::Solve,
 };
 
-// Nine moves from the goal.
+// A board nine moves from the goal.
 const OBLONG: Call = Call {
     name: "three-by-hash",
     cols: 3,
@@ -231,23 +231,20 @@ fn print_verdict<R: Print + Eprint + AllocGlobal + Threads + Wait + Sync>(
     rt: &R,
     call: &Call,
 ) -> u8 {
-    let name = call.name;
     match verdict_on(rt, rt.alloc(), call) {
-        Verdict::Whole => {
-            let _ = println!(rt; "{name} whole");
-            0
-        }
-        Verdict::Cost => {
-            let _ = println!(rt; "{name} bounded by its cost");
-            0
-        }
-        Verdict::Refused => {
-            let _ = println!(rt; "{name} refused");
-            0
-        }
-        Verdict::Wrong(answer) => {
-            let _ = eprintln!(rt; "bench_refusals: {name}: {answer:?}");
-            1
-        }
+        Verdict::Whole => print_lawful(rt, call.name, "whole"),
+        Verdict::Cost => print_lawful(rt, call.name, "bounded by its cost"),
+        Verdict::Refused => print_lawful(rt, call.name, "refused"),
+        Verdict::Wrong(answer) => print_wrong(rt, call.name, answer),
     }
+}
+
+fn print_lawful(rt: &impl Print, name: &str, text: &str) -> u8 {
+    let _ = println!(rt; "{name} {text}");
+    0
+}
+
+fn print_wrong(rt: &impl Eprint, name: &str, answer: Answer) -> u8 {
+    let _ = eprintln!(rt; "bench_refusals: {name}: {answer:?}");
+    1
 }

@@ -17,15 +17,22 @@ use std::alloc::Global;
 use std::thread::Threads;
 use table_sets::build_bound;
 
-/// Solves a board of two rows for Korf's goal, at face cost or else at unit cost. Its least plan is
-/// known to cost so much, or it is known to be of another class.
-pub fn search(
-    alloc: Global,
-    cols: u8,
-    tiles: &[u8],
-    at_face_cost: bool,
-    least: Option<u32>,
-) -> Answer {
+/// Makes the call of this name, or answers None where it is none of these.
+pub fn call<R: Threads + AllocGlobal + Sync>(rt: &R, name: &str) -> Option<Answer> {
+    match name {
+        "unit-2x2" => Some(search(rt.alloc(), 2, &[3, 2, 1, 0], false, Some(6))),
+        "face-2x2" => Some(search(rt.alloc(), 2, &[3, 2, 1, 0], true, Some(12))),
+        "unit-2x3" => Some(search(rt.alloc(), 3, &[2, 3, 5, 0, 1, 4], false, Some(9))),
+        "face-2x3" => Some(search(rt.alloc(), 3, &[2, 3, 5, 0, 1, 4], true, Some(22))),
+        "with-tables" => Some(search_with_tables(rt)),
+        "no-plan" => Some(search(rt.alloc(), 2, &[0, 2, 1, 3], false, None)),
+        _ => None,
+    }
+}
+
+// Solves a board of two rows for Korf's goal, at face cost or else at unit cost. The cost of its
+// least plan is known, or None is given for a board of another class.
+fn search(alloc: Global, cols: u8, tiles: &[u8], at_face_cost: bool, least: Option<u32>) -> Answer {
     let Ok(shape) = Shape::new(2, cols) else {
         return Answer::Wrong("no shape");
     };
@@ -41,8 +48,8 @@ pub fn search(
     solve(alloc, &start, &weights, &bound, least)
 }
 
-/// Solves a board of 2 by 2 at face cost, with tables that are built before.
-pub fn search_with_tables<R: Threads + AllocGlobal + Sync>(rt: &R) -> Answer {
+// Solves a board of 2 by 2 at face cost, with tables that are built before.
+fn search_with_tables<R: Threads + AllocGlobal + Sync>(rt: &R) -> Answer {
     let alloc = rt.alloc();
     let shape = Shape::new(2, 2).unwrap();
     let weights = Weights::face(shape);

@@ -29,7 +29,7 @@ const BEHIND_UP: [u8; 16] = [1, 0, 2, 3, 4, 5, 6, 7, 8, 9, 10, 11, 12, 13, 14, 1
 
 const BEHIND_DOWN: [u8; 16] = [1, 5, 2, 3, 4, 9, 6, 7, 8, 0, 10, 11, 12, 13, 14, 15];
 
-// What a worker has, its lists as numbers that are made of all that is in them.
+// What a worker has. Each list is given as a number made of all that is in it.
 #[derive(Clone, Copy, PartialEq, Eq)]
 struct Standing {
     count: usize,
@@ -114,7 +114,7 @@ fn item(job: &Job, tiles: &[u8], cost: u32) -> Option<Item> {
     })
 }
 
-// Whether a worker knows a board so.
+// Whether a worker knows a board by this cost and this move, and expanded or not as given.
 fn knows(worker: &Worker<Plain>, job: &Job, row: (&[u8], u32, Move, bool)) -> bool {
     let (tiles, cost, via, expanded) = row;
     let Ok(board) = Board::from_tiles(job.goal.shape(), tiles) else {
@@ -199,22 +199,77 @@ fn both(first: Answer, second: Answer) -> Answer {
     }
 }
 
-// The answer, where this is so at last.
+// The answer where it is so at last, or else that it is wrong for this reason.
 fn if_so(answer: Answer, is_so: bool, why: &'static str) -> Answer {
     if is_so { answer } else { Answer::Wrong(why) }
 }
 
-/// Meets a board, at a cost for which the list of buckets grows.
-pub fn meet_board(alloc: Global) -> Answer {
-    let Some(job) = job(alloc) else {
-        return Answer::Wrong("no job");
-    };
-    let purse = Credit::plain().1;
-    let Some(mut worker) = hire(alloc, &job, purse, Allowance::plain()) else {
-        return Answer::Refused;
-    };
-    let answer = meet_start(alloc, &job, &mut worker, 20);
-    let is_known = knows(&worker, &job, (&START, 20, Move::U, false));
+// What a worker that knows no board does.
+#[derive(Clone, Copy)]
+enum Trial {
+    Meet,
+    Settle,
+    Expand,
+    ExpandMore,
+}
+
+/// Makes the call of this name, or answers None where it is none of these.
+pub fn call(alloc: Global, name: &str) -> Option<Answer> {
+    match name {
+        "meet" => Some(make(alloc, Trial::Meet)),
+        "settle" => Some(make(alloc, Trial::Settle)),
+        "expand" => Some(make(alloc, Trial::Expand)),
+        "expand-more" => Some(make(alloc, Trial::ExpandMore)),
+        _ => None,
+    }
+}
+
+// Makes a trial.
+fn make(alloc: Global, trial: Trial) -> Answer {
+    match job(alloc) {
+        Some(job) => make_for(alloc, &job, trial),
+        None => Answer::Wrong("no job"),
+    }
+}
+
+// Makes a trial by a worker that is hired for it.
+fn make_for(alloc: Global, job: &Job, trial: Trial) -> Answer
+    requires { IsJobFit job.now }
+{
+    let (credit, purse) = Credit::plain();
+    match hire(alloc, job, purse, Allowance::plain()) {
+        Some(mut worker) => make_by(alloc, job, &mut worker, credit, trial),
+        None => Answer::Refused,
+    }
+}
+
+// Makes a trial by this worker, who has all of the credit.
+fn make_by(
+    alloc: Global,
+    job: &Job,
+    worker: &mut Worker<Plain>,
+    credit: Credit<Plain>,
+    trial: Trial,
+) -> Answer
+    requires job { IsJobFit job.now }
+    requires led { IsGuidedToGoal job.now worker.old.lists }
+    requires credit { credit ≡ 1 }
+{
+    match trial {
+        Trial::Meet => meet_board(alloc, job, worker),
+        Trial::Settle => settle_items(alloc, job, worker, credit),
+        Trial::Expand => expand_board(alloc, job, worker, credit),
+        Trial::ExpandMore => expand_in_full_table(alloc, job, worker, credit),
+    }
+}
+
+// Meets a board, at a cost for which the list of buckets grows.
+fn meet_board(alloc: Global, job: &Job, worker: &mut Worker<Plain>) -> Answer
+    requires job { IsJobFit job.now }
+    requires led { IsGuidedToGoal job.now worker.old.lists }
+{
+    let answer = meet_start(alloc, job, worker, 20);
+    let is_known = knows(worker, job, (&START, 20, Move::U, false));
     if_so(answer, is_known && worker.lists().len() == 1, "not known")
 }
 
@@ -239,34 +294,49 @@ fn hold_two(
 ) -> Option<()>
     ensures { worker.new.lists ≡ worker.old.lists }
 {
-    let mut items = ArrayVec::new();
-    items.push(item(job, &BEHIND_UP, 30)?);
-    items.push(item(job, &START, 20)?);
+    let first = item(job, &BEHIND_UP, 30)?;
+    let second = item(job, &START, 20)?;
+    let mut lane = lane_with(alloc, first, second, purse)?;
+    worker.deliver(&mut lane).ok()
+}
+
+// A lane with a packet of these two items, or None where it finds no memory.
+fn lane_with(
+    alloc: Global,
+    first: Item,
+    second: Item,
+    purse: &mut Purse<Plain>,
+) -> Option<Queue<Plain>> {
     if purse.amount() == 0 {
         return None;
     }
     let mut lane = Queue::new(alloc).ok()?;
-    let Ok(()) = lane.push(Packet::seal(items, purse)) else {
-        return None;
-    };
-    worker.deliver(&mut lane).ok()
-}
-
-/// Settles two items, one after the other.
-pub fn settle_items(alloc: Global) -> Answer {
-    let Some(job) = job(alloc) else {
-        return Answer::Wrong("no job");
-    };
-    let (mut credit, purse) = Credit::plain();
-    let mut other = credit.empty_purse();
-    credit.draw(&mut other, 1);
-    match hire(alloc, &job, purse, Allowance::plain()) {
-        Some(mut worker) => settle_two(alloc, &job, &mut worker, &mut other),
-        None => Answer::Refused,
+    let mut items = ArrayVec::new();
+    items.push(first);
+    items.push(second);
+    match lane.push(Packet::seal(items, purse)) {
+        Ok(()) => Some(lane),
+        Err(_) => None,
     }
 }
 
-// Settles two items of a worker that knows no board.
+// Settles two items, one after the other. The share of their packet is drawn from the credit.
+fn settle_items(
+    alloc: Global,
+    job: &Job,
+    worker: &mut Worker<Plain>,
+    mut credit: Credit<Plain>,
+) -> Answer
+    requires job { IsJobFit job.now }
+    requires led { IsGuidedToGoal job.now worker.old.lists }
+    requires credit { credit ≡ 1 }
+{
+    let mut other = credit.empty_purse();
+    credit.draw(&mut other, 1);
+    settle_two(alloc, job, worker, &mut other)
+}
+
+// Settles two items whose packet has its share from this purse.
 fn settle_two(
     alloc: Global,
     job: &Job,
@@ -281,43 +351,53 @@ fn settle_two(
     };
     let first = settle_it(alloc, job, worker);
     let second = settle_it(alloc, job, worker);
-    let is_so = knows(worker, job, (&START, 20, Move::U, false))
+    if_so(
+        both(first, second),
+        is_settled(worker, job),
+        "not settled so",
+    )
+}
+
+// Whether a worker knows the two boards, and no others.
+fn is_settled(worker: &Worker<Plain>, job: &Job) -> bool {
+    knows(worker, job, (&START, 20, Move::U, false))
         && knows(worker, job, (&BEHIND_UP, 30, Move::U, false))
         && worker.lists().len() == 2
-        && worker.held().is_empty();
-    if_so(both(first, second), is_so, "not settled so")
+        && worker.held().is_empty()
 }
 
-/// Expands a board, for whose moves the list of buckets grows, and two buckets.
-pub fn expand_board(alloc: Global) -> Answer {
-    let Some(job) = job(alloc) else {
-        return Answer::Wrong("no job");
-    };
-    let (credit, purse) = Credit::plain();
-    let mut book = Book::new(credit, Grants::plain(), 7, 2);
-    let Some(mut worker) = hire(alloc, &job, purse, Allowance::plain()) else {
-        return Answer::Refused;
-    };
-    let met = meet_start(alloc, &job, &mut worker, 0);
-    let expanded = expand_granted(alloc, &job, &mut worker, &mut book);
-    let is_so = is_expanded(&worker, &job, 3);
-    if_so(both(met, expanded), is_so, "not expanded so")
+// Expands a board, for whose moves the list of buckets grows, and two buckets.
+fn expand_board(
+    alloc: Global,
+    job: &Job,
+    worker: &mut Worker<Plain>,
+    credit: Credit<Plain>,
+) -> Answer
+    requires job { IsJobFit job.now }
+    requires led { IsGuidedToGoal job.now worker.old.lists }
+{
+    let met = meet_start(alloc, job, worker, 0);
+    let expanded = expand_granted(alloc, job, worker, credit);
+    if_so(
+        both(met, expanded),
+        is_expanded(worker, job, 3),
+        "not expanded so",
+    )
 }
 
-/// Expands a board where the table of known boards is full but for three places, so that the table
-/// grows too.
-pub fn expand_in_full_table(alloc: Global) -> Answer {
-    let Some(job) = job(alloc) else {
-        return Answer::Wrong("no job");
-    };
-    let (credit, purse) = Credit::plain();
-    let mut book = Book::new(credit, Grants::plain(), 7, 2);
-    let Some(mut worker) = hire(alloc, &job, purse, Allowance::plain()) else {
-        return Answer::Refused;
-    };
-    let met = fill_table(alloc, &job, &mut worker);
-    let expanded = expand_granted(alloc, &job, &mut worker, &mut book);
-    let is_so = is_expanded(&worker, &job, PAGE_LENGTH - 1);
+// Expands a board where the table of known boards has three places left, so that it grows too.
+fn expand_in_full_table(
+    alloc: Global,
+    job: &Job,
+    worker: &mut Worker<Plain>,
+    credit: Credit<Plain>,
+) -> Answer
+    requires job { IsJobFit job.now }
+    requires led { IsGuidedToGoal job.now worker.old.lists }
+{
+    let met = fill_table(alloc, job, worker);
+    let expanded = expand_granted(alloc, job, worker, credit);
+    let is_so = is_expanded(worker, job, PAGE_LENGTH - 1);
     if_so(both(met, expanded), is_so, "not expanded so")
 }
 
@@ -326,15 +406,25 @@ fn expand_granted(
     alloc: Global,
     job: &Job,
     worker: &mut Worker<Plain>,
-    book: &mut Book<Plain>,
+    credit: Credit<Plain>,
 ) -> Answer
     requires job { IsJobFit job.now }
     requires led { IsGuidedToGoal job.now worker.old.lists }
 {
-    if worker.allowance() != 0 || worker.expansions() != 0 || worker.grant(book).is_err() {
-        return Answer::Wrong("not granted");
+    if grant(job, worker, credit) {
+        expand_it(alloc, job, worker)
+    } else {
+        Answer::Wrong("not granted")
     }
-    expand_it(alloc, job, worker)
+}
+
+// Grants expansions to a worker to which nothing was granted yet, and answers whether it was so.
+fn grant(job: &Job, worker: &mut Worker<Plain>, credit: Credit<Plain>) -> bool
+    requires led { IsGuidedToGoal job.now worker.old.lists }
+    ensures led { IsGuidedToGoal job.now worker.new.lists }
+{
+    let mut book = Book::new(credit, Grants::plain(), 7, 2);
+    worker.allowance() == 0 && worker.expansions() == 0 && worker.grant(&mut book).is_ok()
 }
 
 // Meets the start at no cost, and others at a greater one, until three places are left in the first
@@ -377,7 +467,7 @@ fn numbered_tiles(number: usize) -> [u8; 16] {
     tiles
 }
 
-// Whether a worker that knew the start at no cost has expanded it, and knows so many boards now.
+// Whether a worker that knew the start at no cost has expanded it, and knows this many boards now.
 fn is_expanded(worker: &Worker<Plain>, job: &Job, known: usize) -> bool {
     knows(worker, job, (&START, 0, Move::U, true))
         && knows(worker, job, (&BEHIND_UP, 5, Move::U, false))
