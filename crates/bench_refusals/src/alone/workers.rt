@@ -243,7 +243,7 @@ fn make_for(alloc: Global, job: &Job, trial: Trial) -> Answer
     }
 }
 
-// Makes a trial by this worker, who has all of the credit.
+// Makes a trial by this worker, which has all of the credit.
 fn make_by(
     alloc: Global,
     job: &Job,
