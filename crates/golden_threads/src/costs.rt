@@ -112,29 +112,28 @@ fn count_all<R: Threads + Wait + Sync>(
                 weights,
                 limit: u64::MAX,
             };
-            count_board(&mut count, rt, alloc, &problem, bound, team, *cost);
+            count.plans = count.plans.saturating_add(1);
+            if finds_cost(rt, alloc, &problem, bound, team, *cost) {
+                count.right = count.right.saturating_add(1);
+            }
         }
     }
     count
 }
 
-// Counts a board that has a plan of this cost, and none of a lower one.
-fn count_board<R: Threads + Wait + Sync>(
-    count: &mut Count,
+/// Whether a team finds this cost of a problem, with rows that the checker accepts and without rows.
+pub fn finds_cost<R: Threads + Wait + Sync>(
     rt: &R,
     alloc: Global,
     problem: &Problem,
     bound: &Bound,
     team: Team,
     cost: u32,
-)
+) -> bool
     requires { ArePotentials problem.now.weights problem.now.goal bound.now }
 {
     let due = Answer::Plan(cost);
     let with_rows = answer_with_rows(rt, alloc, problem, bound, team, &Free);
     let without_rows = answer_without_rows(rt, alloc, problem, bound, team, &Free);
-    count.plans = count.plans.saturating_add(1);
-    if with_rows == due && without_rows == due {
-        count.right = count.right.saturating_add(1);
-    }
+    with_rows == due && without_rows == due
 }

@@ -2,17 +2,15 @@
 
 ghost use Rattle.lower_bound.specs.Tables.{ArePotentials};
 
+use crate::costs::finds_cost;
 use board::{Board, Move, Shape, Weights};
-use hda_run::Free;
 use lower_bound::Bound;
 use memory::push;
 use std::alloc::Global;
 use std::io::{self, ErrorKind, Print};
 use std::sync::Wait;
 use std::thread::Threads;
-use test_worlds::{
-    Answer, Division, Problem, Team, answer_with_rows, answer_without_rows, bound_of,
-};
+use test_worlds::{Division, Problem, Team, bound_of};
 
 // The blank is in a corner, on a side, and in the middle.
 static STARTS: [[u8; 9]; 3] = [
@@ -126,28 +124,11 @@ fn count_teams<R: Threads + Wait + Sync>(
                 workers,
                 division: *division,
             };
-            count_team(count, rt, alloc, problem, bound, team, cost);
+            count.runs = count.runs.saturating_add(1);
+            if finds_cost(rt, alloc, problem, bound, team, cost) {
+                count.right = count.right.saturating_add(1);
+            }
         }
-    }
-}
-
-fn count_team<R: Threads + Wait + Sync>(
-    count: &mut Count,
-    rt: &R,
-    alloc: Global,
-    problem: &Problem,
-    bound: &Bound,
-    team: Team,
-    cost: u32,
-)
-    requires { ArePotentials problem.now.weights problem.now.goal bound.now }
-{
-    let due = Answer::Plan(cost);
-    let with_rows = answer_with_rows(rt, alloc, problem, bound, team, &Free);
-    let without_rows = answer_without_rows(rt, alloc, problem, bound, team, &Free);
-    count.runs = count.runs.saturating_add(1);
-    if with_rows == due && without_rows == due {
-        count.right = count.right.saturating_add(1);
     }
 }
 

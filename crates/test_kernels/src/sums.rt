@@ -120,8 +120,8 @@ fn successors_of_the_hardest_board(rt: HostRuntime) {
     let (sum, [up, left, right, down]) = sum_and_successors(&rt, &start, &unpacked);
     assert!(rt; sum == 21);
     assert!(rt; up.is_none());
-    for (told, worked) in [left, right, down].iter().zip(&SUCCESSORS) {
-        let successor = told.expect(&rt, "the blank stays on the board");
+    for (found, worked) in [left, right, down].iter().zip(&SUCCESSORS) {
+        let successor = found.expect(&rt, "the blank stays on the board");
         assert!(rt; is_worked(&rt, &successor, worked));
     }
 }
