@@ -8,7 +8,7 @@ import sys
 import tempfile
 import time
 
-from programs import NEEDED, NO_PROGRAM, OUT, PROGRAM, end_in_order, fail, is_buildable, is_current, keep, kit, locked, note_choice, sources, version
+from programs import NEEDED, NO_PROGRAM, OUT, PROGRAM, end_in_order, fail, is_buildable, is_current, keep, kit, locked, note_choice, say, sources, version
 from quick_build import CannotBuild, build
 
 WHAT_IS_BUILT = f"""{PROGRAM}: building the program without repeating its proofs, which takes about a minute. It checks each step as it runs.
@@ -19,7 +19,7 @@ def build_quick():
     """Builds the quick program. Where sources change meanwhile, it is built again."""
     if not is_buildable():
         fail(f"{NEEDED}; found: {version() or 'none'}")
-    print(WHAT_IS_BUILT, file=sys.stderr, flush=True)
+    say(WHAT_IS_BUILT)
     made_of = None
     with tempfile.TemporaryDirectory(prefix="building-", dir=OUT) as room:
         while made_of != sources("quick"):
@@ -54,7 +54,7 @@ def main():
     try:
         program = f"{OUT}/{find(os.environ.get('TILESOLVE_BUILD', ''))}/{PROGRAM}"
     except (CannotBuild, OSError) as why:
-        print(f"{PROGRAM}: the program can't be built: {why}", file=sys.stderr)
+        say(f"{PROGRAM}: the program can't be built: {why}")
         sys.exit(NO_PROGRAM)
     # (Python ignores a closed pipe, and the program is not to)
     signal.signal(signal.SIGPIPE, signal.SIG_DFL)

@@ -11,6 +11,7 @@ import os
 import re
 import shutil
 import signal
+import subprocess
 import sys
 import tempfile
 
@@ -28,10 +29,16 @@ BESIDES = {"quick": "tools/quick_build.py", "proved": "HANDLES"}
 NO_PROGRAM = 70
 
 
+def say(text):
+    """Prints a line on standard error, if that is open."""
+    with contextlib.suppress(OSError):
+        os.write(2, f"{text}\n".encode())
+
+
 def fail(text):
     """Ends with a message on standard error, and the status for a missing program."""
     name = os.path.basename(sys.argv[0])
-    print(f"{PROGRAM if name == 'launch.py' else name}: {text}", file=sys.stderr)
+    say(f"{PROGRAM if name == 'launch.py' else name}: {text}")
     sys.exit(NO_PROGRAM)
 
 
@@ -94,7 +101,7 @@ def locked():
         try:
             fcntl.flock(file, fcntl.LOCK_EX | fcntl.LOCK_NB)
         except BlockingIOError:
-            print(f"{PROGRAM}: waiting for another call that builds", file=sys.stderr)
+            say(f"{PROGRAM}: waiting for another call that builds")
             fcntl.flock(file, fcntl.LOCK_EX)
         for name in os.listdir(OUT):
             if name.startswith("building-"):
@@ -126,6 +133,16 @@ def note_choice(wanted, kind, since):
         # (what changes in the same tick of the clock is to count as newer)
         os.utime(file.name, (since - 0.02, since - 0.02))
         os.replace(file.name, f"{OUT}/choice{wanted and f'.{wanted}'}")
+
+
+def current():
+    """Has ./tilesolve build its program where that is due, and returns the path of the program that it runs."""
+    # (it solves an empty input)
+    status = subprocess.run([f"{ROOT}/{PROGRAM}"], stdin=subprocess.DEVNULL).returncode
+    if status:
+        sys.exit(status)
+    is_quick = os.environ.get("TILESOLVE_BUILD") == "quick" or not is_current("proved")
+    return f"{OUT}/{'quick' if is_quick else 'proved'}/{PROGRAM}"
 
 
 def end_in_order():
