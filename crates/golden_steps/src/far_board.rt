@@ -53,13 +53,15 @@ pub fn print_counts<R: Threads + Wait + Print + AllocGlobal + Sync>(rt: &R) -> i
 
 fn print_kept<R: Threads + Wait + Print + AllocGlobal + Sync>(rt: &R) -> io::Result<()> {
     println!(rt; "# By 2 to 16 threads alone, with tables, {RUNS} runs each")?;
-    let Some(count) = count_kept(rt, rt.alloc()) else {
-        return Err(ErrorKind::OutOfMemory.into());
-    };
-    println!(rt;
-        "kept, and of cost {COST} with a certificate: {} of {}",
-        count.kept, count.runs
-    )
+    match count_kept(rt, rt.alloc()) {
+        Some(count) => print_kept_count(rt, count),
+        None => Err(ErrorKind::OutOfMemory.into()),
+    }
+}
+
+fn print_kept_count(rt: &impl Print, count: Kept) -> io::Result<()> {
+    let Kept { kept, runs } = count;
+    println!(rt; "kept, and of cost {COST} with a certificate: {kept} of {runs}")
 }
 
 // The same of these workers, whom tables of these groups guide, in this many runs.

@@ -5,9 +5,7 @@ ghost use Rattle.batch_runs.specs.Setups.{Guides};
 
 use batch_cli::{Setup, SpreadKind};
 use board::{Board, Shape, Weights};
-use database_build::{build, is_potential};
 use lower_bound::Bound;
-use pattern_index::{Group, Partition};
 use std::alloc::Global;
 
 // The values of a setup's words, each by its own name.
@@ -30,18 +28,23 @@ struct Words<'a> {
 /// and `--spread` is `zobrist` or `blank`.
 pub fn setup_of(alloc: Global, text: &str) -> Option<Setup> {
     let words = words_of(text)?;
-    let shape = shape_of(words.rows, words.cols)?;
-    let goal = goal_of(alloc, shape, words.goal)?;
-    let weights = weights_of(shape, words.cost)?;
     let limit = limit_of(words.limit)?;
     let spread = spread_of(words.spread)?;
     let workers = words.workers.parse().ok()?;
-    let setup = Setup::new(alloc, goal, weights).limit(limit).spread(spread);
+    let setup = guided_setup(alloc, &words)?;
+    setup.limit(limit).spread(spread).workers(workers).ok()
+}
+
+// The setup of these words but for its limit and workers.
+fn guided_setup(alloc: Global, words: &Words<'_>) -> Option<Setup> {
+    let shape = shape_of(words.rows, words.cols)?;
+    let goal = goal_of(alloc, shape, words.goal)?;
+    let weights = weights_of(shape, words.cost)?;
     if words.groups == "none" {
-        return setup.workers(workers).ok();
+        return Some(Setup::new(alloc, goal, weights));
     }
     let bound = bound_of(alloc, &goal, &weights, words.groups)?;
-    setup.bound(bound).workers(workers).ok()
+    Some(Setup::new(alloc, goal, weights).bound(bound))
 }
 
 // The words by their names, with a default for each that is left out.
@@ -58,19 +61,24 @@ fn words_of(text: &str) -> Option<Words<'_>> {
     };
     for option in text.strip_prefix("--")?.split(" --") {
         let (name, value) = option.split_once(' ')?;
-        match name {
-            "rows" => words.rows = value,
-            "cols" => words.cols = value,
-            "cost" => words.cost = value,
-            "goal" => words.goal = value,
-            "groups" => words.groups = value,
-            "workers" => words.workers = value,
-            "spread" => words.spread = value,
-            "limit" => words.limit = value,
-            _ => return None,
-        }
+        *word_named(&mut words, name)? = value;
     }
     Some(words)
+}
+
+// The word of this name, if there is one.
+fn word_named<'a, 'b>(words: &'b mut Words<'a>, name: &str) -> Option<&'b mut &'a str> {
+    match name {
+        "rows" => Some(&mut words.rows),
+        "cols" => Some(&mut words.cols),
+        "cost" => Some(&mut words.cost),
+        "goal" => Some(&mut words.goal),
+        "groups" => Some(&mut words.groups),
+        "workers" => Some(&mut words.workers),
+        "spread" => Some(&mut words.spread),
+        "limit" => Some(&mut words.limit),
+        _ => None,
+    }
 }
 
 fn shape_of(rows: &str, cols: &str) -> Option<Shape> {
@@ -124,24 +132,11 @@ fn spread_of(word: &str) -> Option<SpreadKind> {
     }
 }
 
-// The sums of the table of one group, or None where it makes no group or finds no memory.
+// The bound of one group, or None where these tiles are no group or memory is refused.
 fn bound_of(alloc: Global, goal: &Board, weights: &Weights, word: &str) -> Option<Bound>
     requires { weights.now.grid ≡ goal.now.grid }
     ensures { IfSome result (λ bound. Guides goal.now weights.now bound) }
 {
-    let shape = goal.shape();
     let tiles = tiles_of(alloc, word)?;
-    let group = Group::new(shape, tiles.as_slice()).ok()?;
-    let Ok(table) = build(alloc, &group, goal, weights) else {
-        return None;
-    };
-    if !is_potential(&table, &group, goal, weights) {
-        return None;
-    }
-    let mut groups = Vec::new(alloc);
-    groups.push(group).ok()?;
-    let mut tables = Vec::new(alloc);
-    tables.push(table).ok()?;
-    let partition = Partition::new(shape, groups).ok()?;
-    Bound::new(partition, tables).ok()
+    test_worlds::bound_of(alloc, goal, weights, &[tiles.as_slice()])
 }

@@ -10,7 +10,7 @@ use search_lists::SearchLists;
 use std::alloc::Global;
 use std::io::{self, ErrorKind, Print};
 use worker_core::{Queue, Worker};
-use world_model::Item;
+use world_model::{Item, Stop};
 
 // The text between two pieces.
 const BETWEEN: &str = "; ";
@@ -29,10 +29,15 @@ pub fn look<C: Tokens>(alloc: Global, team: &Team<C>) -> io::Result<String> {
 pub fn print_changes(rt: &impl Print, before: &str, after: &str) -> io::Result<()> {
     'pieces: for (old, new) in before.split(BETWEEN).zip(after.split(BETWEEN)) {
         if old != new {
-            print!(rt; "{BETWEEN}{new}")?;
+            print_piece(rt, new)?;
         }
     }
     rt.println("")
+}
+
+fn print_piece(rt: &impl Print, piece: &str) -> io::Result<()> {
+    rt.print(BETWEEN)?;
+    rt.print(piece)
 }
 
 fn push_all<C: Tokens>(text: &mut String, team: &Team<C>) -> io::Result<()> {
@@ -110,7 +115,11 @@ fn push_amounts<C: Tokens>(text: &mut String, worker: &Worker<C>) -> io::Result<
 fn push_book<C: Tokens>(text: &mut String, book: &Book<C>) -> io::Result<()> {
     write!(text, "; credit {}", book.credit())?;
     push_cost(text, "incumbent", book.best().cost())?;
-    match book.stop() {
+    push_stop(text, book.stop())
+}
+
+fn push_stop(text: &mut String, stop: Option<Stop>) -> io::Result<()> {
+    match stop {
         Some(stop) => write!(text, "; stop {stop:?}")?,
         None => text.push_str("; stop -")?,
     }

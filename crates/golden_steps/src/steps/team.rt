@@ -40,18 +40,8 @@ pub fn gather<C: Tokens>(
     let mut credit = credit;
     let (purse, other) = share_out(&mut credit, purse, scene.purse, scene.other);
     let book = Book::new(credit, grants, scene.limit, WORKERS);
-    let trial = Trial::new(alloc, scene, purse, allowance)?;
-    with_lanes(alloc, trial, book, other)
-}
-
-// The team of a worker, a book and another worker's purse, with two empty lanes.
-fn with_lanes<C: Tokens>(
-    alloc: Global,
-    trial: Trial<C>,
-    book: Book<C>,
-    other: Purse<C>,
-) -> Option<Team<C>> {
-    let (lane_out, lane_in) = lanes(alloc)?;
+    let trial = Trial::new(alloc, scene, purse, allowance);
+    let (trial, (lane_out, lane_in)) = trial.zip(lanes(alloc))?;
     Some(Team {
         trial,
         book,
