@@ -2,7 +2,7 @@
 program, which proves nothing, and runs of it in which an allocation is refused.
 
 rt try --fail-alloc takes most of a second for a run, and can't run threads. Here a small library takes the place of the C
-library's allocations (checks/refused_allocations.c). PROGRAM names a bench_refusals that is built already.
+library's allocations (checks/refused_allocations.c). BENCH_REFUSALS names a bench_refusals that is built already.
 """
 import os
 import re
@@ -28,8 +28,8 @@ def calls(part):
 
 def build_in(room):
     """Builds the program, and the library that refuses allocations."""
-    if "PROGRAM" in os.environ:
-        os.symlink(os.path.realpath(os.environ["PROGRAM"]), f"{room}/{PROGRAM}")
+    if "BENCH_REFUSALS" in os.environ:
+        os.symlink(os.path.realpath(os.environ["BENCH_REFUSALS"]), f"{room}/{PROGRAM}")
     elif not kit():
         sys.exit(f"checks/refusing.py: {NEEDED}")
     else:
