@@ -33,6 +33,7 @@ def fail(text):
 
 def build_in(room):
     """Builds the program, and the library that refuses allocations."""
+    build_library(room)
     if "BENCH_REFUSALS" in os.environ:
         os.symlink(os.path.realpath(os.environ["BENCH_REFUSALS"]), f"{room}/{PROGRAM}")
     elif not kit():
@@ -42,7 +43,6 @@ def build_in(room):
             build(PROGRAM, f"{room}/{PROGRAM}", kit(), room=room)
         except CannotBuild as why:
             fail(why)
-    build_library(room)
 
 
 def build_library(room):
