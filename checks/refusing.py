@@ -13,7 +13,7 @@ import sys
 
 ROOT = os.path.dirname(os.path.dirname(os.path.realpath(__file__)))
 PROGRAM = "bench_refusals"
-# A run that takes so many seconds is not going to end.
+# A run that takes longer is not going to end.
 SECONDS = 60
 sys.path.insert(0, f"{ROOT}/tools")
 from programs import NEEDED, kit  # noqa: E402
