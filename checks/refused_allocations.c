@@ -1,6 +1,6 @@
-// Takes the place of the C library's allocations in a program that checks/thread-refusals runs (by LD_PRELOAD), and
-// refuses some of them: that of the number REFUSED, where it is above 0, and with EACH_AFTER=1 each after it too. Their
-// count goes to the file COUNTED, eight bytes of it, while the program runs.
+// Takes the place of the C library's allocations in a program that checks/refusals, checks/thread-refusals or
+// checks/hostile runs (by LD_PRELOAD). It refuses the one of the number REFUSED, where that is above 0, and with
+// EACH_AFTER=1 each after it too. Their count goes to the file COUNTED, eight bytes of it, while the program runs.
 #include <errno.h>
 #include <fcntl.h>
 #include <stdatomic.h>

@@ -68,7 +68,7 @@ def checksum_of(path):
 
 
 def sources(kind):
-    """A checksum of what a program is made of: the files of its crates by their paths, and what each crate stands on."""
+    """A checksum of what a program is made of: the files of its crates by their paths, and what each crate uses."""
     crates = crates_listed()
     names = [*below(PROGRAM, crates), PROGRAM]
     paths = [f"{ROOT}/{BESIDES[kind]}"]
