@@ -38,31 +38,55 @@ plain() {
     "$made/plain" "$@"
 }
 
-# Fails where the two programs print something else for the same words.
+# Fails where the two programs print something else for the same arguments.
 compare() {
     local ours theirs
-    ours=$(proved "$@") || fail "the proved program fails at $*"
-    theirs=$(plain "$@") || fail "the plain program fails at $*"
-    [[ $ours == "$theirs" ]] || fail "the programs differ at $*"$'\n'"$ours"$'\n'"$theirs"
+    ours=$(proved "$@") || fail "the proved program fails at $part $*"
+    theirs=$(plain "$@") || fail "the plain program fails at $part $*"
+    [[ $ours == "$theirs" ]] || fail "the programs differ at $part $*"$'\n'"$ours"$'\n'"$theirs"
 }
 
-# Prints the milliseconds of processor time that a command takes.
+# Sets `taken` to the milliseconds of processor time that `proved` or `plain` takes with these arguments.
 time_of() {
-    local TIMEFORMAT=%3U taken
-    taken=$({ time "$@" >/dev/null; } 2>&1)
-    echo $((10#${taken/./}))
+    local TIMEFORMAT=%3U
+    if ! taken=$({ time "$@" >/dev/null 2>"$made/errors"; } 2>&1); then
+        cat "$made/errors" >&2
+        fail "the $1 program fails at $part ${*:2}"
+    fi
+    taken=$((10#${taken/./}))
 }
 
-# Sets proved_time and plain_time to the least that each program takes for the same words, of so many runs.
+# Sets proved_time and plain_time to the least that each program takes in `runs` runs with the same arguments.
 least_times() {
-    local runs=$1 run taken
+    local runs=$1 run
     shift
     proved_time=''
     plain_time=''
     for ((run = 0; run < runs; run++)); do
-        taken=$(time_of proved "$@")
+        time_of proved "$@"
         proved_time=$((${proved_time:-taken} < taken ? proved_time : taken))
-        taken=$(time_of plain "$@")
+        time_of plain "$@"
         plain_time=$((${plain_time:-taken} < taken ? plain_time : taken))
     done
+}
+
+# Processor time is counted in steps of up to 10 ms. Less than this is too short for a ratio.
+least_milliseconds=100
+
+# Prints the nanoseconds that each program takes for one of `count` things, and their ratio. Fails where the ratio is above
+# `most`, and where the plain program's time is too short.
+#
+# usage: print_ratio LABEL THING COUNT MOST [DIGITS]
+print_ratio() {
+    awk -v label="$1" -v thing="$2" -v count="$3" -v most="$4" -v digits="${5:-1}" -v proved="$proved_time" \
+        -v plain="$plain_time" -v least="$least_milliseconds" 'BEGIN {
+        if (plain < least) {
+            print label ": too few " thing "s to time"
+            exit 1
+        }
+        slow = proved > most * plain
+        printf "%s: proved %." digits "f ns a %s, plain %." digits "f ns, ratio %.2f%s\n", label, proved * 1e6 / count,
+            thing, plain * 1e6 / count, proved / plain, slow ? ", above " most : ""
+        exit slow
+    }'
 }
