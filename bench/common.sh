@@ -1,5 +1,5 @@
-# What the scripts of this folder share. From then on a script that sources this file runs at the top of the repository,
-# and $made is a folder for its files, which is removed at the end. PROGRAM and TILESOLVE can name programs that are built
+# What the scripts of this folder share. A script that sources this file is in the top folder of the repository afterwards,
+# and $made is a folder for its files, which is removed at its end. PROGRAM and TILESOLVE can name programs that are built
 # already.
 set -euo pipefail
 shopt -s inherit_errexit
@@ -87,7 +87,7 @@ plain() {
     "$made/$name" "$@"
 }
 
-# Fails where the two programs print something else for the same arguments.
+# Fails if the programs don't print the same for the same arguments.
 compare() {
     local ours theirs
     ours=$(proved "$@") || fail "the proved program fails at $part $*"
@@ -122,8 +122,8 @@ least_times() {
 # Processor time is counted in steps of up to 10 ms. Less than this is too short for a ratio.
 least_milliseconds=100
 
-# Prints the nanoseconds that each program takes for one of `count` things, and their ratio. Fails where the ratio is above
-# `most`, and where the plain program's time is too short.
+# Prints the nanoseconds that each program takes for one of `count` things, and their ratio. Fails if the ratio is above
+# `most`, or if the plain program's time is too short.
 #
 # usage: print_ratio LABEL THING COUNT MOST [DIGITS]
 print_ratio() {

@@ -57,7 +57,7 @@ class Run:
 
 
 class Started:
-    """A program that runs and has printed its first line, on the stream of this name. It reads the lines of boards."""
+    """A program that runs and has printed its first line on the stream `first_to`. Its input has the lines of boards."""
 
     def __init__(self, command, boards=(), first_to="stderr"):
         self.first_to, self.other = first_to, tempfile.TemporaryFile("w+")
