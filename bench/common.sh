@@ -1,68 +1,141 @@
-# What some scripts of this folder share. Each times the part of bench_searches that `part` names beside the same in
-# plain Rust (bench/NAME.rs). PROGRAM may name a bench_searches that is built already. A script that sources this file is
-# at the top of the repository then.
+# What the scripts of this folder share. A script that sources this file is in the top folder of the repository afterwards,
+# and $made is a folder for its files, which is removed at its end. PROGRAM and TILESOLVE can name programs that are built
+# already.
 set -euo pipefail
 shopt -s inherit_errexit
 export LC_ALL=C
+# All programs use large pages, as ./tilesolve does. An empty value turns them off.
+export GLIBC_TUNABLES=${GLIBC_TUNABLES-glibc.malloc.hugetlb=1}
 
-name=$(basename "$0")
-cd "$(dirname "${BASH_SOURCE[0]}")/.."
-made=$(mktemp -d)
-trap 'rm -rf "$made"' EXIT
+script=$(realpath -- "$0")
+name=${script##*/}
 
 fail() {
     printf 'bench/%s: %s\n' "$name" "$1" >&2
     exit 1
 }
 
-# Builds the plain program and, unless PROGRAM names one, the proved one, both for the processor that rt builds for.
-build() {
-    rustc --edition 2024 -C opt-level=3 -C target-cpu=x86-64-v2 -o "$made/plain" "bench/$name.rs"
-    local crate=crates/bench_searches
-    if [[ -z ${PROGRAM:-} ]] && ! (cd $crate && rt run) >"$made/log" 2>&1 <$crate/stdin; then
-        cat "$made/log" >&2
-        fail 'bench_searches was not proved, built and run'
-    fi
-    cp "${PROGRAM:-$crate/out/bench_searches}" "$made/proved"
+# Prints how the script is called, from the end of its first comment.
+usage() {
+    sed -n '/^# usage:/,/^[^#]/s/^# //p' "$script"
 }
 
-# The most kilobytes of addresses that the proved program has.
-addresses=unlimited
+# Ends the script with its usage and the exit status 2, unless the arguments are at most `most` numbers from 1 to
+# 999,999,999. If --help is the only one, the exit status is 0.
+take_numbers() {
+    local most=$1 are_right argument
+    shift
+    if [[ $* == --help ]]; then
+        usage
+        exit
+    fi
+    are_right=$(($# <= most))
+    for argument; do
+        [[ $argument =~ ^[1-9][0-9]{0,8}$ ]] || are_right=0
+    done
+    if ((!are_right)); then
+        usage >&2
+        exit 2
+    fi
+}
 
-proved() (
-    ulimit -v "$addresses"
-    exec "$made/proved" "$part" "$@"
-)
+# Relative paths are relative to the folder of the caller.
+for given in PROGRAM TILESOLVE; do
+    if [[ -n ${!given-} ]]; then
+        path=$(realpath -m -- "${!given}")
+        [[ -f $path && -x $path ]] || fail "$given names no program: ${!given}"
+        printf -v "$given" %s "$path"
+    fi
+done
+
+cd -- "$(realpath -- "${BASH_SOURCE[0]%/*}/..")"
+made=$(mktemp -d)
+trap 'rm -rf "$made"' EXIT
+
+# Builds plain programs of this folder, $made/NAME of each NAME.rs, for the processor that rt builds for. Then sets
+# $program to PROGRAM or, if that is empty, to the program of a crate, which it proves, builds and runs.
+#
+# usage: build CRATE [NAME..]
+build() {
+    local crate=$1 each
+    shift
+    for each; do
+        rustc --edition 2024 -C opt-level=3 -C target-cpu=x86-64-v2 -o "$made/$each" "bench/$each.rs" ||
+            fail "bench/$each.rs was not built"
+    done
+    program=${PROGRAM-}
+    [[ -z $program ]] || return 0
+    program=$PWD/crates/$crate/out/$crate
+    if ! (cd "crates/$crate" && rt run) >"$made/log" 2>&1 <"crates/$crate/stdin"; then
+        cat "$made/log" >&2
+        fail "$crate was not proved, built and run"
+    fi
+}
+
+# Runs a script in Python from standard input with these arguments. It can import the modules of this folder.
+run_python() {
+    SCRIPT=bench/$name PYTHONPATH=bench python3 -B - "$@"
+}
+
+# The rest is for scripts that time a part of bench_searches, $part, beside the plain program of their own name.
+
+proved() {
+    "$program" "$part" "$@"
+}
 
 plain() {
-    "$made/plain" "$@"
+    "$made/$name" "$@"
 }
 
-# Fails where the two programs print something else for the same words.
+# Fails if the programs don't print the same for the same arguments.
 compare() {
     local ours theirs
-    ours=$(proved "$@") || fail "the proved program fails at $*"
-    theirs=$(plain "$@") || fail "the plain program fails at $*"
-    [[ $ours == "$theirs" ]] || fail "the programs differ at $*"$'\n'"$ours"$'\n'"$theirs"
+    ours=$(proved "$@") || fail "the proved program fails at $part $*"
+    theirs=$(plain "$@") || fail "the plain program fails at $part $*"
+    [[ $ours == "$theirs" ]] || fail "the programs differ at $part $*"$'\n'"$ours"$'\n'"$theirs"
 }
 
-# Prints the milliseconds of processor time that a command takes.
+# Sets `taken` to the milliseconds of processor time that `proved` or `plain` takes with these arguments.
 time_of() {
-    local TIMEFORMAT=%3U taken
-    taken=$({ time "$@" >/dev/null; } 2>&1)
-    echo $((10#${taken/./}))
+    local TIMEFORMAT=%3U
+    if ! taken=$({ time "$@" >/dev/null 2>"$made/errors"; } 2>&1); then
+        cat "$made/errors" >&2
+        fail "the $1 program fails at $part ${*:2}"
+    fi
+    taken=$((10#${taken/./}))
 }
 
-# Sets proved_time and plain_time to the least that each program takes for the same words, of so many runs.
+# Sets proved_time and plain_time to the least that each program takes in `runs` runs with the same arguments.
 least_times() {
-    local runs=$1 run taken
+    local runs=$1 run
     shift
     proved_time=''
     plain_time=''
     for ((run = 0; run < runs; run++)); do
-        taken=$(time_of proved "$@")
+        time_of proved "$@"
         proved_time=$((${proved_time:-taken} < taken ? proved_time : taken))
-        taken=$(time_of plain "$@")
+        time_of plain "$@"
         plain_time=$((${plain_time:-taken} < taken ? plain_time : taken))
     done
+}
+
+# Processor time is counted in steps of up to 10 ms. Less than this is too short for a ratio.
+least_milliseconds=100
+
+# Prints the nanoseconds that each program takes for one of `count` things, and their ratio. Fails if the ratio is above
+# `most`, or if the plain program's time is too short.
+#
+# usage: print_ratio LABEL THING COUNT MOST [DIGITS]
+print_ratio() {
+    awk -v label="$1" -v thing="$2" -v count="$3" -v most="$4" -v digits="${5:-1}" -v proved="$proved_time" \
+        -v plain="$plain_time" -v least="$least_milliseconds" 'BEGIN {
+        if (plain < least) {
+            print label ": too few " thing "s to time"
+            exit 1
+        }
+        slow = proved > most * plain
+        printf "%s: proved %." digits "f ns a %s, plain %." digits "f ns, ratio %.2f%s\n", label, proved * 1e6 / count,
+            thing, plain * 1e6 / count, proved / plain, slow ? ", above " most : ""
+        exit slow
+    }'
 }

@@ -350,13 +350,13 @@ impl Table for Map {
     }
 }
 
-/// What tells a board in the open list.
-trait Told: Copy {
+/// How the open list refers to a board: by its slot, or by its key.
+trait Handle: Copy {
     fn of(place: u128) -> Self;
     fn place(self) -> u128;
 }
 
-impl Told for u32 {
+impl Handle for u32 {
     fn of(place: u128) -> Self {
         place as u32
     }
@@ -366,7 +366,7 @@ impl Told for u32 {
     }
 }
 
-impl Told for u128 {
+impl Handle for u128 {
     fn of(place: u128) -> Self {
         place
     }
@@ -381,7 +381,7 @@ struct Open<K> {
     cursor: usize,
 }
 
-impl<K: Told> Open<K> {
+impl<K: Handle> Open<K> {
     fn put(&mut self, f: u32, key: K, g: u32) {
         let place = f as usize;
         while self.buckets.len() <= place {
@@ -440,14 +440,14 @@ fn neighbour(blank: usize, direction: u32) -> (usize, bool) {
     }
 }
 
-fn meet<K: Told>(table: &mut impl Table, open: &mut Open<K>, key: u128, g: u32, f: u32, via: u8) {
+fn meet<K: Handle>(table: &mut impl Table, open: &mut Open<K>, key: u128, g: u32, f: u32, via: u8) {
     let (answer, place) = table.relax(key, g, via);
     if answer != Answer::Kept {
         open.put(f & 255, K::of(place), g);
     }
 }
 
-fn expand<K: Told>(table: &mut impl Table, open: &mut Open<K>, distances: &[u32; 256], key: u128, g: u32, f: u32) {
+fn expand<K: Handle>(table: &mut impl Table, open: &mut Open<K>, distances: &[u32; 256], key: u128, g: u32, f: u32) {
     let mut tiles = [0u8; 16];
     let mut blank = 0usize;
     let mut rest = key;
@@ -479,7 +479,7 @@ fn expand<K: Told>(table: &mut impl Table, open: &mut Open<K>, distances: &[u32;
     }
 }
 
-fn search<K: Told>(mut table: impl Table, count: usize) {
+fn search<K: Handle>(mut table: impl Table, count: usize) {
     let distances = distances();
     let (start, sum) = scrambled(&distances);
     let mut open = Open::<K> { buckets: Vec::new(), cursor: 0 };

@@ -15,7 +15,7 @@ DRAWN = {
     "6 2 3 1 12 7 15 11 5 14 4 10 0 9 13 8": 51,
     "6 15 9 4 2 0 7 8 12 11 13 1 3 10 5 14": 56,
 }
-# The board of bench/expand, of which no plan costs less than 57 (Korf 1985, the first of his hundred).
+# The board of bench/expand, whose least plan costs 57 (Korf 1985, the first of his hundred).
 KORF = "14 13 15 7 11 12 9 5 6 0 2 1 4 8 10 3"
 # Boards of cost 58 to 62, with the costs that `batch` of bench_searches found.
 FAR = {

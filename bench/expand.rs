@@ -15,7 +15,7 @@ const FACTOR: u128 = 0x9E37_79B9_7F4A_7C15_F39C_C060_5CED_C835;
 /// How many expansions are granted at once.
 const GRANT: u64 = 256;
 
-/// A board of which no plan costs less than 57 (Korf 1985, the first of his hundred).
+/// A board whose least plan costs 57 (Korf 1985, the first of his hundred).
 const START: [u8; 16] = [14, 13, 15, 7, 11, 12, 9, 5, 6, 0, 2, 1, 4, 8, 10, 3];
 
 /// The most groups that a board of 25 cells has.
@@ -226,7 +226,7 @@ impl Search {
     }
 }
 
-/// Expands so many boards, or as many as lead to the goal, and prints what it came to.
+/// Expands `count` boards, or fewer if the goal is reached, and prints the figures of the search.
 fn search(shape: Shape, weights: &[u8; 25], tables: &[Table], count: u64) {
     let key_of = |tiles: &[u8]| tiles.iter().fold(0, |key, tile| key * 32 + u128::from(*tile));
     let goal: Vec<u8> = (0..shape.cells() as u8).collect();

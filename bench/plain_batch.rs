@@ -65,7 +65,7 @@ impl Table {
         }
     }
 
-    /// The value for a board of so many cells, by the cell of each number.
+    /// The value for a board of `cells` cells, by the cell of each number.
     fn value(&self, cells: usize, places: &[u8; 16]) -> usize {
         let blank = places[0];
         let mut rank = blank as usize;

@@ -1,6 +1,6 @@
 //! A batch in plain safe Rust by IDA* with folded tables of the default groups, for boards of 11 to 16 cells with
-//! Korf's goal and unit costs. A folded table has for each way in which a group's tiles can stand the least value over
-//! the blank's places. `bench/all` times it beside `batch` of `bench_searches`.
+//! Korf's goal and unit costs. A folded table has, for each placement of a group's tiles, the least value over the
+//! cells of the blank. `bench/all` times it beside `batch` of `bench_searches`.
 //!
 //!     plain_ida ROWS COLS    answers the lines `ID TILE TILE ..` of standard input, each by `ID COST NODES`
 //!
@@ -34,7 +34,7 @@ struct Guide {
     group_of: [u8; 16],
 }
 
-/// Where a search stands: four bits a number. `tiles` has the tile of each cell, `places` the cell of each tile but the
+/// The state of a search: four bits a number. `tiles` has the tile of each cell, `places` the cell of each tile but the
 /// blank's, tile 1 lowest, so that the places of a group's tiles lie together; `values` has eight bits a group.
 #[derive(Clone, Copy)]
 struct Node {

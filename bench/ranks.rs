@@ -78,7 +78,7 @@ fn next_state(state: u64) -> u64 {
         .wrapping_add(1442695040888963407)
 }
 
-/// The line that so many ranks come to.
+/// The line of the sum of this many ranks.
 fn walk(group: &Group, ranks: u32) -> String {
     let mut views = [group.unrank(0); 1024];
     let mut state = 2;

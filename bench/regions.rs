@@ -7,13 +7,13 @@
 
 /// The value of a view that has no plan of less cost.
 pub const NO_VALUE: u16 = 65_535;
-/// So many values are read at once: that many stand behind the last node's, and are written nowhere.
+/// How many values are read at once. As many follow those of the last node, and are written nowhere.
 const WIDE: usize = 8;
 
-/// What all groups of `k` tiles share on a board of `n` cells. The cells of the tiles are a set. How the tiles stand on
-/// it is an order, a number with a digit for each tile: how many tiles before it stand on smaller cells; that of tile t
-/// counts t!, so the last tile's is the highest. The cells that are not in a set fall into regions. A region with an
-/// order is a node: its views have one value, since the blank goes from cell to cell of a region at no cost.
+/// What all groups of `k` tiles share on a board of `n` cells. The cells of the tiles are a set. The placement of the
+/// tiles on it is an order, a number with a digit for each tile: how many tiles before it are on smaller cells. The digit
+/// of tile t counts t!, so the last tile's is the highest. The cells that are not in a set fall into regions. A region
+/// with an order is a node: its views have one value, since the blank goes from cell to cell of a region at no cost.
 pub struct Frame {
     n: usize,
     k: usize,
@@ -50,7 +50,7 @@ fn bits(mut mask: u32) -> impl Iterator<Item = usize> {
 /// How many cells of a mask are below a cell.
 fn below(mask: u32, cell: usize) -> usize { (mask & ((1 << cell) - 1)).count_ones() as usize }
 
-/// In how many ways k tiles can stand on n cells.
+/// The number of placements of k tiles on n cells.
 fn ways(n: usize, k: usize) -> usize { (n + 1 - k..=n).product() }
 
 fn factorial(k: usize) -> usize { (1..=k).product() }
@@ -279,7 +279,7 @@ impl Frame {
     }
 
     /// The whole table: the value of each view by its rank. The blank's cell is the highest digit and the last tile's
-    /// the lowest, so there is a row of n - k values for each way in which the blank and the other tiles stand.
+    /// the lowest, so there is a row of n - k values for each placement of the blank and the other tiles.
     pub fn whole(&self, values: &[u16]) -> Vec<u16> {
         let (n, k) = (self.n, self.k);
         let (ranks, others) = (self.ranks(n - 1), sets(n, k - 1));
@@ -325,8 +325,8 @@ impl Frame {
     }
 }
 
-/// Writes blocks of values, of which the starts are given, across: what stands at one place of all blocks becomes a row
-/// of the table, the one with the place's rank. Eight blocks make a square of eight rows, if there are as many.
+/// Transposes the blocks of values that start at `starts`: the values at one place of all blocks become a row of the
+/// table, the one with the place's rank. Eight blocks make a square of eight rows, if there are as many.
 fn across(values: &[u16], starts: &[usize], ranks: &[u32], table: &mut [u16]) {
     let row = starts.len();
     for at in (0..ranks.len()).step_by(WIDE) {

@@ -74,7 +74,7 @@ fn direction_of(state: u64) -> Move {
     }
 }
 
-/// The line that a walk of so many steps from the goal comes to.
+/// The line of a walk of this many steps from the goal.
 fn walk(side: u8, steps: u32) -> String {
     let mut weights = [0; 25];
     for tile in 1..side as usize * side as usize {

@@ -1,7 +1,7 @@
 //! The tables of `bench_searches` in plain safe Rust, to time the building of tables beside them: by a search over views,
 //! or, as fast as we can make it, over regions (`regions.rs`).
 //!
-//! usage: tables views|regions PART WORDS..    with the part and the words that bench_searches takes
+//! usage: tables views|regions PART NUMBER..    with the part and the numbers that bench_searches takes
 
 use std::env;
 use std::process::ExitCode;
@@ -68,7 +68,7 @@ fn goal_of(cells: usize, word: u64) -> [u8; 25] {
     places
 }
 
-/// The least value of the views that show the tiles on the same cells, for each way in which they can stand.
+/// The least value of the views that show the tiles on the same cells, for each placement of the tiles.
 fn fold(group: &Group, values: &[u16]) -> Vec<u16> {
     let ways = values.len() / (group.shape.cells() - group.tiles().len());
     let mut folded = vec![NO_VALUE; ways];
