@@ -35,7 +35,7 @@ pub fn setup_of(alloc: Global, text: &str) -> Option<Setup> {
     setup.limit(limit).spread(spread).workers(workers).ok()
 }
 
-// The setup of these words but for its limit and workers.
+// The setup of these words without its limit and workers.
 fn guided_setup(alloc: Global, words: &Words<'_>) -> Option<Setup> {
     let shape = shape_of(words.rows, words.cols)?;
     let goal = goal_of(alloc, shape, words.goal)?;
