@@ -38,7 +38,8 @@ impl Graph {
         requires weights { weights.now.grid ≡ group.now.grid }
         ensures graph { IsGraphOf group.now weights.now result }
         ensures sound { IsSoundGraph result }
-        ensures costs { AreSomeCosts group.now.tiles result.costs }
+        ensures costs { (place : ℕ) → place < length group.now.tiles
+            → 1 ≤ slice_index result.costs place }
         ensures behind { (place : ℕ) → length group.now.tiles ≤ place
             → slice_index result.costs place ≡ 0 }
     {
