@@ -193,6 +193,7 @@ fn has_hash(bucket: &Bucket, hash: u32) -> bool
 }
 
 // The place of a key among the slots that a bucket has itself.
+#[inline(always)]
 fn find_inside(bucket: &Bucket, slots: &Pages<Slot>, key: u128, hash: u32) -> Option<usize>
     requires { HasPlacesBelow bucket.now (length slots.now) }
     ensures { MatchOption result
@@ -216,6 +217,7 @@ fn find_inside(bucket: &Bucket, slots: &Pages<Slot>, key: u128, hash: u32) -> Op
 }
 
 // The place of a key among the slots.
+#[inline(always)]
 pub(crate) fn find(index: &Index, key: u128, hash: u32) -> Option<usize>
     requires indexed { IsIndexInOrder index.now }
     requires hash { hash ≡ key_hash key }
@@ -244,21 +246,17 @@ pub(crate) fn find(index: &Index, key: u128, hash: u32) -> Option<usize>
     None
 }
 
-// Reads the buckets that `find` will read of these keys, so that the reads of memory overlap. The
-// answer means nothing.
-pub(crate) fn read_ahead(index: &Index, keys: &[u128]) -> u32
+// Reads the bucket that `find` will read of a key. The answer means nothing.
+#[inline(always)]
+pub(crate) fn read_ahead(index: &Index, key: u128) -> u32
     requires indexed { IsIndexInOrder index.now }
 {
     if index.len == 0 {
         return 0;
     }
-    let chains = chain_count_of(index.len);
-    let mut all = 0;
-    'keys: for key in keys {
-        let bucket = index.buckets.at(chain_of(hash(*key), index.bits, chains));
-        all ^= bucket.hashes[0] ^ bucket.places[ENTRIES - 1];
-    }
-    all
+    let chain = chain_of(hash(key), index.bits, chain_count_of(index.len));
+    let bucket = index.buckets.at(chain);
+    bucket.hashes[0] ^ bucket.places[ENTRIES - 1]
 }
 
 // Puts a slot into a bucket with free entries, if it belongs there. Neither case takes a guess of
@@ -379,6 +377,7 @@ fn read_list(index: &Index, chain: usize) -> u64 {
 }
 
 // Adds a chain, and divides the one chain that it halves.
+#[inline(never)]
 fn add_chain(index: &mut Index)
     requires indexed { IsIndexInOrder index.old }
     requires many { FIRST_CHAINS * LOAD ≤ index.old.len }
@@ -410,6 +409,7 @@ fn make_first_chains(index: &mut Index)
 }
 
 // Makes as many chains as are wanted where a slot is added.
+#[inline(always)]
 fn make_chains(index: &mut Index)
     requires { HasNextChains index.old }
     ensures grown { IsIndexGrown index.old index.new (chain_count (index.old.len + 1)) index.old.len }
@@ -428,6 +428,7 @@ fn make_chains(index: &mut Index)
 }
 
 // Adds a slot for a key that has none.
+#[inline(always)]
 pub(crate) fn add(index: &mut Index, key: u128, hash: u32, cost: u32, via: Move)
     requires chains { HasNextChains index.old }
     requires place { IsPlace index.old.len (min (length index.old.slots) (length index.old.links)) }

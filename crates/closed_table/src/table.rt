@@ -143,12 +143,13 @@ impl Closed {
         Ok(())
     }
 
-    /// Reads ahead what `relax` will read of these keys, up to four, so that their reads of memory
-    /// overlap. It changes nothing.
-    pub fn read_ahead(&mut self, keys: &[u128])
+    /// Reads ahead what `relax` will read of a key, so that its reads of memory overlap with
+    /// others. It changes nothing.
+    #[inline(always)]
+    pub fn read_ahead(&mut self, key: u128)
         ensures { self.new ≡ self.old }
     {
-        self.ahead = index::read_ahead(&self.index, keys);
+        self.ahead ^= index::read_ahead(&self.index, key);
     }
 
     /// Reads ahead what `at` will read of a place. It changes nothing.
@@ -156,11 +157,12 @@ impl Closed {
         requires { place < length self.old.keys }
         ensures { self.new ≡ self.old }
     {
-        self.ahead = self.index.slots.at(place).cost;
+        self.ahead ^= self.index.slots.at(place).cost;
     }
 
     /// Takes a board that was met at a cost by a last move: it is put in where it was absent or
     /// known at a greater cost, and is not expanded then. Answers the key's place too.
+    #[inline(always)]
     pub fn relax(&mut self, key: u128, cost: u32, via: Move) -> (Relaxed, u32)
         requires { map.get self.old.known key ≡ None → 0 < self.old.room }
         ensures answer { result.0 ≡ relaxation_answer (map.get self.old.known key) cost }

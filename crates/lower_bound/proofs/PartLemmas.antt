@@ -15,7 +15,7 @@ use Rattle.pattern_index.specs.Partitions.{ShareNoTile, PartitionModel, IsPartit
 use Rattle.pattern_index.proofs.ViewMoveLemmas.{board_view, seen_move}
 use Rattle.database_build.specs.Folds.{FoldedModel, IsFoldOf, folded_in}
 use Rattle.lower_bound.specs.Folded.{AreFolded, AreFoldsOf, IsFoldedPotential, folded_parts, part_folded, value_for, AreFoldedPotentials, KeepsOtherTiles, values_of}
-use Rattle.lower_bound.specs.Laws.{FoldedSumsAreLowerBounds, AreOneEach, FoldedBoundsSayNoMore, FoldedBoundsKeepGroups, MovesMoveOneTile}
+use Rattle.lower_bound.specs.Laws.{FoldedSumsAreLowerBounds, AreOneEach, FoldedBoundsSayNoMore, FoldedBoundsKeepGroups, FoldedBoundsAreTables, MovesMoveOneTile}
 use Rattle.board.specs.declared.moves.Move.{Move}
 use Rattle.board.specs.Weights.{WeightsModel}
 use Rattle.board.specs.Moves.{Moves}
@@ -483,6 +483,19 @@ folded_potentials rule goal tables folded is made potentials = record {
 -- a bound whose tables were folded is of the same groups
 pub keep_groups : FoldedBoundsKeepGroups
 keep_groups tables folded is = is.split
+
+-- and has one table for each of them
+pub folded_are_tables : FoldedBoundsAreTables
+folded_are_tables tables folded is made = record {
+  partition = subst (λ (split : PartitionModel). IsPartition split) (sym made.split) is.partition;
+  one_each = inr (subst (λ (split : PartitionModel). AreFoldsOf split.groups folded.folds) (sym made.split) each, made.none_whole);
+}
+  where
+    each : AreFoldsOf tables.split.groups folded.folds
+    each = ⊎_elim
+        (λ (whole : AreTablesOf tables.split.groups tables.lookups × AreWhole tables). folded_groups tables.lookups folded.folds (made.each whole.1) ∙ whole.0)
+        (λ (old : AreFoldsOf tables.split.groups tables.folds × (tables.lookups ≡ [])). ap (map (λ (fold : FoldedModel). fold.selection)) (made.kept old.1) ∙ old.0)
+        is.one_each
 
 -- a bound whose tables were folded says no more
 pub folded_no_more : FoldedBoundsSayNoMore

@@ -56,6 +56,10 @@ FoldedBoundsSayNoMore =
 abbrev pub FoldedBoundsKeepGroups : Type 0
 FoldedBoundsKeepGroups = (tables folded : BoundModel) → IsFoldedBound tables folded → folded.split ≡ tables.split
 
+-- and it has one table for each of them
+abbrev pub FoldedBoundsAreTables : Type 0
+FoldedBoundsAreTables = (tables folded : BoundModel) → IsTables tables → IsFoldedBound tables folded → IsTables folded
+
 -- tables as they are given out: one for each group, in the order of the groups
 abbrev pub AreOneEach : List GroupModel → TableList → Type 0
 AreOneEach groups (Whole lookups) = AreTablesOf groups lookups.now

@@ -45,7 +45,7 @@ pub record ArePotentials (rule : WeightsModel) (goal : BoardModel) (tables : Bou
   pub whole : All (λ table. IsPotential rule table.selection.tiles goal (value_in table)) tables.lookups
   pub folded : AreFoldedPotentials rule goal tables.folds
 
--- each whole table is a potential for some goal and some costs; nothing is asked of folded ones
+-- all whole tables are potentials for one goal and one cost rule; nothing is asked of folded ones
 pub record AreConsistent (tables : BoundModel) : Type 0 where
   pub rule : WeightsModel
   pub goal : BoardModel

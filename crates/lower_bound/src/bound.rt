@@ -242,6 +242,7 @@ impl Bound {
     /// The sum of the board to which a move of a tile leads, by the sum of the board before it and
     /// what is read of that. Only the table whose group has the tile is read, for the values before
     /// and after. Where whole tables are consistent, no other table's value changes.
+    #[inline(always)]
     #[tactic(auto, using(crate::proofs::ConsecutiveLemmas::held_consecutive))]
     pub fn sum_after_move(&self, sum: u32, reading: &Reading, tile: u8) -> u32
         requires consistent { AreConsistent self.now }
@@ -259,6 +260,7 @@ impl Bound {
     }
 
     // The same by digits of the board's search key.
+    #[inline(always)]
     fn sum_after_by_digits(&self, sum: u32, board: &KeyedBoard, tile: u8) -> u32
         requires digits { HasConsecutiveTables self.now }
         requires consistent { AreConsistent self.now }

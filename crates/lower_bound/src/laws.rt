@@ -5,6 +5,7 @@ ghost use Rattle.lower_bound.specs.Laws.{SumsAreLowerBounds, TablesAreLowerBound
 ghost use Rattle.lower_bound.specs.Laws.{FoldedSumsAreLowerBounds, MovesMoveOneTile, ValuesAddUp};
 ghost use Rattle.lower_bound.specs.Laws.{ATileHasOneGroup, ListedTablesAreOneEach};
 ghost use Rattle.lower_bound.specs.Laws.{FoldedBoundsSayNoMore, FoldedBoundsKeepGroups};
+ghost use Rattle.lower_bound.specs.Laws.{FoldedBoundsAreTables};
 ghost use Rattle.lower_bound.specs.Laws.{MovesChangeOneValue};
 ghost use Rattle.lower_bound.specs.Laws.{BothAreToldOrNot};
 
@@ -27,12 +28,13 @@ pub fn folded_sums_are_lower_bounds()
     ensures { FoldedSumsAreLowerBounds }
 {}
 
-/// A bound whose tables were folded is of the same groups, and says no more of a board than it said
-/// before.
-#[tactic(auto, using(crate::proofs::PartLemmas::folded_no_more, crate::proofs::PartLemmas::keep_groups))]
+/// A bound whose tables were folded has one for each of the same groups, and says no more of a
+/// board than it said before.
+#[tactic(auto, using(crate::proofs::PartLemmas::folded_no_more, crate::proofs::PartLemmas::keep_groups, crate::proofs::PartLemmas::folded_are_tables))]
 pub fn folded_bounds_say_no_more()
     ensures values { FoldedBoundsSayNoMore }
     ensures groups { FoldedBoundsKeepGroups }
+    ensures tables { FoldedBoundsAreTables }
 {}
 
 /// The tables that a bound gives out are one for each of its groups, in the order of the groups.

@@ -101,6 +101,7 @@ fn value_by_digits(table: &Table, board: &KeyedBoard) -> u16
 
 // The values that a table has for a board before a move of one of its tiles and after it, each
 // found by a slot of digits of the board's search key.
+#[inline(always)]
 pub(crate) fn values_by_digits(table: &Table, board: &KeyedBoard, tile: u8) -> (u16, u16)
     requires { IsConsecutiveMove table.now.selection tile board.now }
     ensures values { (b' : BoardModel) → IsMoveOf tile board.now b'

@@ -58,6 +58,7 @@ enum OwnersBy {
 }
 
 /// Writes what the moves from a board offer, except a move that is left out, if any is.
+#[inline(always)]
 pub fn offers_of<S: Spread>(
     origin: &Origin<'_>,
     terms: &Terms<'_, S>,
@@ -95,6 +96,7 @@ fn owners_by<S: Spread>(board: &KeyedBoard, owners: &S, workers: usize) -> Owner
 }
 
 // What is offered by the move that takes the blank to a cell.
+#[inline(always)]
 fn offer_by<S: Spread>(
     origin: &Origin<'_>,
     terms: &Terms<'_, S>,

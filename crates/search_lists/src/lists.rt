@@ -151,6 +151,7 @@ impl SearchLists {
     }
 
     /// Relaxes a board, and lets it wait where its cost is news, unless it is the goal.
+    #[inline(always)]
     pub fn relax(&mut self, goal: u128, met: Met)
         requires room { map.get self.old.closed.known met.key ≡ None → 0 < self.old.closed.room }
         requires place { 0 < places_at self.old.waiting met.f }
@@ -177,6 +178,7 @@ impl SearchLists {
 
     /// An open board of least cost plus sum, where that is below a limit. Entries that are out of
     /// date go out.
+    #[inline(always)]
     pub fn next(&mut self, below: u32) -> Option<Next>
         ensures closed { self.new.closed ≡ self.old.closed }
         ensures places { (h : ℕ) → places_at self.old.waiting h ≤ places_at self.new.waiting h }
@@ -237,11 +239,12 @@ impl SearchLists {
         read_next(&mut self.closed, &self.open, next.f);
     }
 
-    /// Reads ahead what `relax` will read of these keys, up to four. It changes nothing.
-    pub fn read_ahead(&mut self, keys: &[u128])
+    /// Reads ahead what `relax` will read of a key. It changes nothing.
+    #[inline(always)]
+    pub fn read_ahead(&mut self, key: u128)
         ensures { self.new ≡ self.old }
     {
-        self.closed.read_ahead(keys);
+        self.closed.read_ahead(key);
     }
 }
 
@@ -281,6 +284,7 @@ fn make_room(closed: &mut Closed, alloc: Global, count: usize) -> Result<(), Out
 }
 
 // Relaxes a board, and lets it wait where its cost is news, unless it is the goal.
+#[inline(always)]
 fn relax(closed: &mut Closed, waiting: &mut Open<u32>, goal: u128, met: Met)
     requires room { map.get closed.old.known met.key ≡ None → 0 < closed.old.room }
     requires place { 0 < places_at waiting.old met.f }
@@ -315,6 +319,7 @@ fn is_kept(relaxed: Relaxed) -> bool
 }
 
 // An open board of least cost plus sum, where that is below a limit. What is out of date goes out.
+#[inline(always)]
 fn next_open(
     closed: &Closed,
     waiting: &mut Open<u32>,
@@ -363,6 +368,7 @@ struct Waiting {
 }
 
 // What waits next, where its f is below a limit.
+#[inline(always)]
 fn first_waiting(waiting: &mut Open<u32>, ordered: &mut u32, below: u32) -> Option<Waiting>
     ensures same { HasEntriesOf waiting.old waiting.new }
     ensures next { MatchOption result (NothingWaits waiting.new below)
@@ -382,6 +388,7 @@ fn first_waiting(waiting: &mut Open<u32>, ordered: &mut u32, below: u32) -> Opti
 
 // The least f of all entries. Where it is greater than each before, its entries are put in order of
 // cost: a board of greater cost is nearer to the goal, so it is taken first.
+#[inline(always)]
 fn lowest_in_order(waiting: &mut Open<u32>, ordered: &mut u32) -> Option<u32>
     ensures same { HasEntriesOf waiting.old waiting.new }
     ensures lowest { IsLeastF waiting.new result }

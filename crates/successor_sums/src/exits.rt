@@ -11,6 +11,7 @@ use board::{Move, Shape};
 
 /// Finds the cells to which the blank can go from a cell, except by a move that is left out, if any
 /// is. (Exits that are handed back would be copied, right behind the writes of their single bytes.)
+#[inline(always)]
 pub fn find_exits(shape: Shape, blank: usize, left_out: Option<Move>, exits: &mut ByMoves<usize>)
     requires { blank < cell_count shape }
     ensures { exits.new ≡ four_by (but left_out (λ m. neighbour shape m blank)) }
@@ -24,6 +25,7 @@ pub fn find_exits(shape: Shape, blank: usize, left_out: Option<Move>, exits: &mu
 
 // Puts the cell to which a move leads, unless it is left out or leads off the board. Processors
 // often mispredict which moves do, so nothing here depends on a prediction.
+#[inline(always)]
 fn put_exit(
     exits: &mut ByMoves<usize>,
     shape: Shape,

@@ -241,18 +241,10 @@ fn read_ahead(lists: &mut SearchLists, me: usize, offers: &ByMoves<Offer>)
     if lists.len() < BOARDS_IN_CACHE {
         return;
     }
-    let mut keys = [0; MOVES];
     'offers: for place in 0..offers.len() {
         let (_, offer) = offers.entry(place);
-        keys[place] = own_key(&offer, me);
+        if offer.owner == me {
+            lists.read_ahead(offer.key);
+        }
     }
-    lists.read_ahead(&keys[..offers.len()]);
-}
-
-// The key of what is offered, where this worker owns it, and else one of no board.
-fn own_key(offer: &Offer, me: usize) -> u128
-    ensures own { offer.now.owner ≡ me → result ≡ offer.now.key }
-    ensures other { offer.now.owner ≢ me → result ≡ 0 }
-{
-    if offer.owner == me { offer.key } else { 0 }
 }

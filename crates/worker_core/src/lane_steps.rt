@@ -80,9 +80,7 @@ impl<C: Counting> Worker<C> {
 fn read_ahead(lists: &mut SearchLists, items: &[Item])
     ensures { lists.new ≡ lists.old }
 {
-    let mut keys = [0; PACKET_LIMIT];
-    'keys: for (key, item) in keys.iter_mut().zip(items) {
-        *key = item.board.key();
+    'items: for item in items {
+        lists.read_ahead(item.board.key());
     }
-    lists.read_ahead(&keys);
 }

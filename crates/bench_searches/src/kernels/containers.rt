@@ -182,7 +182,9 @@ fn meet_all(alloc: Global, lists: &mut Lists, successors: &Successors, g: u32) -
     if count > 4 {
         return None;
     }
-    lists.closed.read_ahead(&successors.keys[..count]);
+    for n in 0..count {
+        lists.closed.read_ahead(successors.keys[n & 3]);
+    }
     for n in 0..count {
         let key = successors.keys[n & 3];
         let f = successors.sums[n & 3];
