@@ -32,7 +32,7 @@ Exit status:
   4  out of memory (memory, B3, F7)
   5  the certificate is refused (F1 to F5, C1 to C7)
 
-Formats: docs/CLI.md and docs/CERTIFICATE.md";
+Formats: CLI.md and CERTIFICATE.md, in docs or share/doc/tilesolve";
 
 /// What `solve` does.
 pub(crate) const SOLVE: &str = "Report an optimal plan for each board";
@@ -77,7 +77,7 @@ Codes of --groups:
   E9   two groups share a tile
   E10  more than 24 groups
 
-Formats: docs/CLI.md";
+Formats: CLI.md, in docs or share/doc/tilesolve";
 
 /// What `check` does.
 pub(crate) const CHECK: &str = "Check a certificate";
@@ -102,7 +102,7 @@ Exit status:
   4  out of memory for the certificate or its tables (F7) or for the report (B3)
   5  the certificate is refused: malformed (F1 to F5) or not a proof (C1 to C7)
 
-Format and codes: docs/CERTIFICATE.md";
+Format and codes: CERTIFICATE.md, in docs or share/doc/tilesolve";
 
 /// What `show` does.
 pub(crate) const SHOW: &str = "Draw the boards of a certificate";
@@ -126,7 +126,7 @@ Exit status:
   4  out of memory for the certificate or its drawing (F7) or for the report (B3)
   5  the certificate is refused: malformed (F1 to F5) or its plan is wrong (C1 to C3)
 
-Format and codes: docs/CERTIFICATE.md";
+Format and codes: CERTIFICATE.md, in docs or share/doc/tilesolve";
 
 /// What `upgrade` does.
 pub(crate) const UPGRADE: &str = "Rewrite a certificate in version 2";
@@ -149,7 +149,7 @@ Exit status:
   4  out of memory for the certificate (F7)
   5  standard input is not a certificate (F1 to F5), and nothing is written
 
-Format and codes: docs/CERTIFICATE.md";
+Format and codes: CERTIFICATE.md, in docs or share/doc/tilesolve";
 
 /// What `replay` does.
 pub(crate) const REPLAY: &str = "Run the steps of a parallel search one by one";
@@ -175,7 +175,7 @@ Exit status:
   3  standard input can't be read (B1) or standard output can't be written (B2)
   4  out of memory for the tables (memory) or for a report (B3)
 
-Steps, answers and codes: docs/CLI.md";
+Steps, answers and codes: CLI.md, in docs or share/doc/tilesolve";
 
 /// What `boards` does.
 pub(crate) const BOARDS: &str = "List boards to solve";
@@ -197,7 +197,7 @@ Exit status:
   2  invalid arguments, including the value of --goal (E2 to E4) and --all with --count or --moves
   3  standard output can't be written (B2)
 
-Format: docs/CLI.md";
+Format: CLI.md, in docs or share/doc/tilesolve";
 
 /// The option `--rows`.
 pub(crate) const ROWS: &str = "Rows of each board, 2 to 5";

@@ -10,6 +10,6 @@ at-bucket-requires c =
     let is = c.requires.indexed in
     let some : 0 < chain_count s.len = count_pos s.len c.if-index-eq0.false in
     let lt : place s.bits (chain_count s.len) c.hash.result < chain_count s.len = place_lt s.bits (chain_count s.len) c.hash.result some is.low in
-    let at : c.chain_of.result ≡ place s.bits (chain_count s.len) c.hash.result = c.chain_of.ensures ∙ ap (λ n. place s.bits n c.hash.result) c.chain_count_of-chains.ensures in
+    let at : c.chain_of-chain.result ≡ place s.bits (chain_count s.len) c.hash.result = c.chain_of-chain.ensures ∙ ap (λ n. place s.bits n c.hash.result) c.chain_count_of.ensures in
     let le = is.in_buckets in
     omega arith
