@@ -10,7 +10,7 @@ import sys
 
 ROOT = os.path.dirname(os.path.dirname(os.path.realpath(__file__)))
 sys.path.insert(0, f"{ROOT}/tools")
-from programs import current  # noqa: E402
+from programs import TUNABLES, current  # noqa: E402
 
 # The fields of a certificate. `sides` are rows and columns, and `weights` those of the tiles from 1 on. A bound has no plan,
 # and `cost` is the bound then. `cost_at` and `rows_at` are where the cost and the count of rows begin.
@@ -23,8 +23,7 @@ def tilesolve():
     TILESOLVE names."""
     named = os.environ.get("TILESOLVE")
     if not named:
-        # As ./tilesolve does: the C library is asked for large pages.
-        os.environ.setdefault("GLIBC_TUNABLES", "glibc.malloc.hugetlb=1")
+        os.environ.setdefault("GLIBC_TUNABLES", TUNABLES)
         return current()
     if not shutil.which(named):
         sys.exit(f"checks/{os.path.basename(sys.argv[0])}: TILESOLVE names no program: {named}")

@@ -8,7 +8,7 @@ import sys
 import tempfile
 import time
 
-from programs import NEEDED, NO_PROGRAM, OUT, PROGRAM, end_in_order, fail, is_buildable, is_current, keep, kit, locked, note_choice, say, sources, version
+from programs import NEEDED, NO_PROGRAM, OUT, PROGRAM, TUNABLES, end_in_order, fail, is_buildable, is_current, keep, kit, locked, note_choice, say, sources, version
 from quick_build import CannotBuild, build
 
 WHAT_IS_BUILT = f"""{PROGRAM}: building the program without repeating its proofs, which takes about a minute. It checks each step as it runs.
@@ -58,8 +58,7 @@ def main():
         sys.exit(NO_PROGRAM)
     # (Python ignores a closed pipe, and the program is not to)
     signal.signal(signal.SIGPIPE, signal.SIG_DFL)
-    # As ./tilesolve does: the C library is asked for large pages, in which a search finds its boards faster.
-    os.environ.setdefault("GLIBC_TUNABLES", "glibc.malloc.hugetlb=1")
+    os.environ.setdefault("GLIBC_TUNABLES", TUNABLES)
     os.execv(program, [program, *sys.argv[1:]])
 
 

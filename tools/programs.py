@@ -25,6 +25,9 @@ NEEDED = f"x86-64 Linux, python3 and the Rattle toolchain {KIT} ({LOGIC}), with 
 # What of a crate a program is made of, and what besides.
 PARTS = {"quick": ("src",), "proved": ("src", "specs", "proofs")}
 BESIDES = {"quick": "tools/quick_build.py", "proved": "HANDLES"}
+# What the C library is asked for: large pages, in which a search finds its boards faster, and to keep 64 MB of memory from
+# line to line. (./tilesolve and bench/common.sh have the same, since a shell can't read it here.)
+TUNABLES = "glibc.malloc.hugetlb=1:glibc.malloc.trim_threshold=67108864"
 # The exit status where there is no program to run.
 NO_PROGRAM = 70
 

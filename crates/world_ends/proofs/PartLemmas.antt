@@ -47,7 +47,7 @@ use Rattle.world_model.proofs.OutcomeLemmas.{bounds_true}
 use Rattle.world_ends.specs.Endings.{EndsWhole, HasPlanAbove, EndsIn, IsProvedPlan, end_at}
 use Rattle.world_ends.specs.Readings.{BoundsAreOfWorlds}
 use Rattle.outcomes.specs.Endings.{without_rows}
-use Rattle.world_ends.specs.Laws.{EndingsLackRowsAlone, WantedRowsLeaveABound, BoundsLackRowsAlone, WantedRowsLeaveTheBound, EndsAreBounds, MemoryEndsAreWanted, RowsMakeAnAnswer, RowsMakeABoundAnswer, EndingsAnswer}
+use Rattle.world_ends.specs.Laws.{EndingsLackRowsAlone, WantedRowsLeaveABound, BoundsLackRowsAlone, WantedRowsLeaveTheBound, EndsAreBounds, MemoryEndsAreWanted, UnsolvableEndsAreGiven, WorldsHaveParts, RowsMakeAnAnswer, RowsMakeABoundAnswer, EndingsAnswer}
 use Rattle.outcomes.specs.declared.outcome.Outcome.TheVariants as outcome
 
 -- ---- least numbers, put together
@@ -494,6 +494,14 @@ memory_ends w bound best want (inr ((lowest, reached, low, at, is, some), none, 
   where
     same : ◌≡◌ {A = Cause} (Memory want) (Memory (Refused lacks.0)) → want ≡ Refused lacks.0
     same e = cc
+
+-- where there is no plan, an ending is what the world gives
+pub unsolvable_ends : UnsolvableEndsAreGiven
+unsolvable_ends w why = ((λ x. x), (λ x. x))
+
+-- a world has its own parts
+pub worlds_parts : WorldsHaveParts
+worlds_parts w owner_among shaped sound owns = record { asks = refl; owns = owns; works = refl; shaped = shaped; sound = sound }
 
 -- so it is of an ending that names one, and of an outcome without its rows
 pub ends_bounds : BoundsAreOfWorlds EndsIn (λ ending. ending)

@@ -1,5 +1,5 @@
 -- The laws of endings.
-use Rattle.std.specs.Prelude.{ℕ, ◌≡◌, ◌<◌, ◌⊎◌, ◌↔◌, Vec, Option, None, Some}
+use Rattle.std.specs.Prelude.{ℕ, ◌≡◌, ◌<◌, ◌⊎◌, ◌↔◌, Vec, Option, None, Some, length}
 use Rattle.std.specs.declared.alloc.Global.{Global}
 use Rattle.memory.specs.declared.OutOfMemory.{OutOfMemory}
 use Rattle.board.specs.declared.moves.Move.{Move}
@@ -14,9 +14,13 @@ use Rattle.world_model.specs.Worlds.{WorldState}
 use Rattle.world_model.specs.Outcomes.{AreRowsFor, IsGiven, IsBounded}
 use Rattle.world_model.specs.KeptLaws.{KnowsGoal}
 use Rattle.world_model.specs.declared.steps.Stop.TheVariants as stops
-use Rattle.outcomes.specs.declared.outcome.Ending.TheVariants.{Optimal, Bounded}
+use Rattle.outcomes.specs.declared.outcome.Ending.TheVariants.{Optimal, Unsolvable, Bounded}
+use Rattle.outcomes.specs.declared.outcome.Why.{Why}
 use Rattle.outcomes.specs.Endings.{EndAnswers}
+use Rattle.world_model.specs.Shapes.{IsShaped}
+use Rattle.world_model.specs.Soundness.{IsSound}
 use Rattle.world_ends.specs.Endings.{EndsIn}
+use Rattle.world_ends.specs.Parts.{HasParts}
 use Rattle.world_ends.specs.Readings.{WorldsAnswer}
 
 -- a world ends with a plan just where it gives that plan with the rows that are due
@@ -58,6 +62,19 @@ MemoryEndsAreWanted =
     (w : WorldState) (bound : ℕ) (best : Option (ℕ × Vec Move Global)) (want : Want)
     → EndsIn w (Bounded bound best (Memory want))
     → (w.book.stop ≡ Some (stops.Memory want)) ⊎ ((best ≡ None) × ((refused : OutOfMemory) × (want ≡ Refused refused)) × KnowsGoal w)
+
+-- a world ends with no plan just where it gives that there is none
+abbrev pub UnsolvableEndsAreGiven : Type 0
+UnsolvableEndsAreGiven = (w : WorldState) (why : Why) → EndsIn w (Unsolvable why) ↔ IsGiven w (outcome.Unsolvable why)
+
+-- a shaped and sound world is one that has its own task and workers, with the owners of boards among as many
+abbrev pub WorldsHaveParts : Type 0
+WorldsHaveParts =
+    (w : WorldState) (owner_among : ℕ → BoardModel → ℕ)
+    → IsShaped w
+    → IsSound w
+    → ((b : BoardModel) → w.owner b ≡ owner_among (length w.workers) b)
+    → HasParts w.task owner_among w.workers w
 
 -- where rows prove the cost, an ending answers its task just where it does with these rows
 abbrev pub RowsMakeAnAnswer : Type 0

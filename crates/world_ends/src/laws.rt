@@ -2,6 +2,7 @@
 
 ghost use Rattle.std.specs.Prelude.{◌≡◌, ◌↔◌, sum_by};
 ghost use Rattle.std.specs.FinMap.{len};
+ghost use Rattle.board.specs.Classes.{SameClass};
 ghost use Rattle.outcomes.specs.declared.outcome.Ending.{Ending};
 ghost use Rattle.outcomes.specs.declared.outcome.Outcome.{Outcome};
 ghost use Rattle.outcomes.specs.Endings.{without_rows, EndAnswers};
@@ -17,6 +18,7 @@ ghost use Rattle.world_ends.specs.declared.reading.EndingWithFigures.{EndingWith
 ghost use Rattle.world_ends.specs.Laws.{EndingsLackRowsAlone, WantedRowsLeaveABound};
 ghost use Rattle.world_ends.specs.Laws.{BoundsLackRowsAlone, WantedRowsLeaveTheBound};
 ghost use Rattle.world_ends.specs.Laws.{EndsAreBounds, MemoryEndsAreWanted};
+ghost use Rattle.world_ends.specs.Laws.{UnsolvableEndsAreGiven, WorldsHaveParts};
 ghost use Rattle.world_ends.specs.Laws.{RowsMakeAnAnswer, RowsMakeABoundAnswer, EndingsAnswer};
 
 use crate::reading::{Reading, WithFigures, WithRows, WithoutRows};
@@ -31,13 +33,28 @@ pub fn endings_lack_rows_alone()
 {}
 
 /// The same holds of a bound. Without rows memory is asked for only for the plan of a known goal.
+/// An ending without a plan is an outcome.
 pub fn bounds_lack_rows_alone()
     ensures rows { BoundsLackRowsAlone }
     ensures memory { WantedRowsLeaveTheBound }
     ensures answers { RowsMakeABoundAnswer }
     ensures bounded { EndsAreBounds }
     ensures wanted { MemoryEndsAreWanted }
+    ensures unsolvable { UnsolvableEndsAreGiven }
 {}
+
+/// Each sound world has the parts of which its ending is read.
+#[tactic(auto, using(crate::proofs::PartLemmas::worlds_parts))]
+pub fn worlds_have_parts()
+    ensures { WorldsHaveParts }
+{}
+
+/// A reading's answer for a start of another class than the goal's is the answer of no other task.
+pub fn parity_is_of_other_classes<A: Reading>()
+    ensures { (task : Task) → A.answers task A.parity → ¬ SameClass task.start task.goal }
+{
+    A::keep_laws();
+}
 
 /// The ending that a sound world gives answers its task.
 pub fn endings_answer()

@@ -1,6 +1,6 @@
 //! The plan of a run, followed back by last moves.
 
-ghost use Rattle.std.specs.Prelude.{ℕ, ◌≡◌, ◌<◌, ◌≤◌, Some, IfOk, length};
+ghost use Rattle.std.specs.Prelude.{ℕ, ◌≡◌, ◌<◌, ◌≤◌, Some, IfOk, IsOk, length};
 ghost use Rattle.board.specs.Boards.{BoardModel};
 ghost use Rattle.world_model.specs.declared.parts.Known.{Known};
 ghost use Rattle.world_model.specs.Worlds.{WorldState};
@@ -42,7 +42,8 @@ pub(crate) fn known_of<C: Counting, S: Spread>(
     workers[owner].lists().get(KeyedBoard::new(board).key())
 }
 
-// The plan by which the goal was reached, followed back by last moves, and its cost.
+// The plan by which the goal was reached, followed back by last moves, and its cost. No memory is
+// taken where the start is the goal.
 pub(crate) fn plan_back<C: Counting, S: Spread>(
     alloc: Global,
     asked: &Asked<'_>,
@@ -54,7 +55,8 @@ pub(crate) fn plan_back<C: Counting, S: Spread>(
         × HasParts (task_asked asked.now) (S.owner_of owners.now) (states_of workers.now) w }
     requires found { known_in (S.owner_of owners.now) (states_of workers.now) asked.now.goal
         ≡ Some reached }
-    ensures { IfOk result (λ found. IsTraced (task_asked asked.now) (S.owner_of owners.now)
+    ensures free { asked.now.start ≡ asked.now.goal → IsOk result }
+    ensures plan { IfOk result (λ found. IsTraced (task_asked asked.now) (S.owner_of owners.now)
         (states_of workers.now) reached.cost found.0 found.1.items) }
 {
     let mut backwards = Vec::new(alloc);

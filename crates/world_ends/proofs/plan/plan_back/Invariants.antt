@@ -15,6 +15,7 @@ invariant-boards g l =
       found : known_in (g.S.Spread.owner_of l.owners) (states_of l.workers) l.board ≡ Some l.here;
       leads : Leads l.asked.weights l.board (reverse l.backwards.items) l.asked.goal l.cost;
       within : l.here.cost + l.cost ≤ l.fn.reached.cost;
+      still : l.asked.start ≡ l.asked.goal → l.board ≡ l.asked.start;
       traced : (w : WorldState) → HasParts (task_asked l.asked) (g.S.Spread.owner_of l.owners) (states_of l.workers) w → IsByLastMoves w l.board (reverse l.backwards.items) l.asked.goal;
     }
 
