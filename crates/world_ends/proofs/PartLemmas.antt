@@ -6,6 +6,7 @@ use Rattle.std.proofs.lemmas.Option.{none-some, slice_get_within, get_or_from_sl
 use Rattle.std.proofs.lemmas.List.Elements.{Contains-append_left, Contains-push, Contains-push_cases}
 use Rattle.std.proofs.Math.Seq.{take-suc}
 use Rattle.board.specs.Boards.{BoardModel, IsBoard}
+use Rattle.board.specs.Classes.{SameClass}
 use Rattle.board.specs.Shapes.{ShapeModel}
 use Rattle.board.specs.Moves.{Moves}
 use Rattle.board.specs.declared.moves.Move.{Move}
@@ -45,7 +46,7 @@ use Rattle.world_model.specs.KeptLaws.{KnowsGoal}
 use Rattle.world_model.proofs.KeptLemmas.{bounds_given, goal_there, stopped_for_memory}
 use Rattle.world_model.proofs.OutcomeLemmas.{bounds_true}
 use Rattle.world_ends.specs.Endings.{EndsWhole, HasPlanAbove, EndsIn, IsProvedPlan, end_at}
-use Rattle.world_ends.specs.Readings.{BoundsAreOfWorlds}
+use Rattle.world_ends.specs.Readings.{BoundsAreOfWorlds, IsForParity}
 use Rattle.outcomes.specs.Endings.{without_rows}
 use Rattle.world_ends.specs.Laws.{EndingsLackRowsAlone, WantedRowsLeaveABound, BoundsLackRowsAlone, WantedRowsLeaveTheBound, EndsAreBounds, MemoryEndsAreWanted, UnsolvableEndsAreGiven, WorldsHaveParts, RowsMakeAnAnswer, RowsMakeABoundAnswer, EndingsAnswer}
 use Rattle.outcomes.specs.declared.outcome.Outcome.TheVariants as outcome
@@ -498,6 +499,10 @@ memory_ends w bound best want (inr ((lowest, reached, low, at, is, some), none, 
 -- where there is no plan, an ending is what the world gives
 pub unsolvable_ends : UnsolvableEndsAreGiven
 unsolvable_ends w why = ((λ x. x), (λ x. x))
+
+-- an answer for parity answers no task whose start is of the goal's class
+pub other_class : {X : Type 0} (answers : Task → X → Type 0) (parity : X) → IsForParity answers parity → (task : Task) → answers task parity → ¬ SameClass task.start task.goal
+other_class answers parity is task says = ((is task).0 says).1
 
 -- a world has its own parts
 pub worlds_parts : WorldsHaveParts

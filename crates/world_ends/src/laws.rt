@@ -50,6 +50,7 @@ pub fn worlds_have_parts()
 {}
 
 /// A reading's answer for a start of another class than the goal's is the answer of no other task.
+#[tactic(auto, using(crate::proofs::PartLemmas::other_class))]
 pub fn parity_is_of_other_classes<A: Reading>()
     ensures { (task : Task) → A.answers task A.parity → ¬ SameClass task.start task.goal }
 {

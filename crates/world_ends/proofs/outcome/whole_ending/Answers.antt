@@ -1,4 +1,4 @@
-use Rattle.std.proofs.Common.{◌≡◌, ℕ, List, None, Some, refl, sym, ap, ◌∙◌, subst, ⊎_elim}
+use Rattle.std.proofs.Common.{◌≡◌, List, None, Some, refl, sym, ap, ◌∙◌, subst, ⊎_elim}
 use Rattle.world_model.specs.Costs.{lesser}
 use Rattle.world_model.specs.Outcomes.{cause_of}
 use Rattle.world_model.specs.Workers.{WorkerState}
@@ -52,7 +52,7 @@ returns-in-Ok-clause-given g c = λ w seen.
     let least = c.lowest_in-lowest.ensures.least c.requires.guide c.requires.guided in
     let found : known_in owner_among states task.goal ≡ c.known_of-reached.result = ap (λ (ws : List WorkerState). known_in owner_among ws task.goal) (sym c.lowest_in-lowest.ensures.same) ∙ sym c.known_of-reached.ensures in
     let some : lesser c.lowest_in-lowest.result (cost_in c.known_of-reached.result) ≡ Some c.in-Some.floor = sym c.floor_of.ensures ∙ c.in-Some.is in
-    let traced = subst (λ (ws : List WorkerState). IsTraced task owner_among ws c.in-Some-reached.known.cost c.in-Ok.found.0 c.in-Ok.found.1.items) c.lowest_in-lowest.ensures.same c.in-Ok.ensures in
+    let traced = subst (λ (ws : List WorkerState). IsTraced task owner_among ws c.in-Some-reached.known.cost c.in-Ok.found.0 c.in-Ok.found.1.items) c.lowest_in-lowest.ensures.same c.in-Ok.ensures.plan in
     ⊎_elim
     (λ optimal. subst (λ (ending : Ending). EndsWhole w ending) (sym optimal.1)
     (plan_least task owner_among states w seen.parts c.args.snapshot.lanes c.lowest_in-lowest.result seen.lanes least c.known_of-reached.result found c.in-Some.floor c.bound_of-bound.result c.in-Some-reached.known c.in-Ok.found some c.bound_of-bound.ensures c.in-Some-reached.is traced optimal.0))

@@ -33,11 +33,15 @@ boards-preserved g c =
       found = back.before.known;
       leads = subst (λ (ms : List Move). Leads c.args.asked.now.weights before ms c.args.asked.now.goal (c.boards.cost + cost)) (sym more) leads;
       within = omega (arith, now.within, back.before.cheaper);
+      still = λ same. absurd (differs c.boards.board c.args.asked.now.start (sym c.boards-test.true ∙ c.ne.ensures) (now.still same));
       traced = λ w parts. subst (λ (ms : List Move). IsByLastMoves w before ms c.args.asked.now.goal) (sym more) (traced w parts);
     }
 
-pub returns : goal.returns
-returns g c =
+pub returns-in_err-push-clause-free : goal.returns-in_err-push-clause-free
+returns-in_err-push-clause-free g c same = absurd (differs c.boards.board c.args.asked.now.start (sym c.boards-test.true ∙ c.ne.ensures) (c.boards.invariant.still same))
+
+pub returns-clause-plan : goal.returns-clause-plan
+returns-clause-plan g c =
     let now = c.boards.invariant in
     let start : c.boards.board ≡ c.args.asked.now.start = same_as c.boards.board c.args.asked.now.start (sym c.boards-test.false ∙ c.ne.ensures) in
     let is = c.reverse.ensures.items in
