@@ -43,7 +43,7 @@ pub fn bounds_lack_rows_alone()
     ensures unsolvable { UnsolvableEndsAreGiven }
 {}
 
-/// Each sound world has the parts of which its ending is read.
+/// Each shaped and sound world has parts: its own task and workers.
 #[tactic(auto, using(crate::proofs::PartLemmas::worlds_parts))]
 pub fn worlds_have_parts()
     ensures { WorldsHaveParts }

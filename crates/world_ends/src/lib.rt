@@ -5,8 +5,8 @@
 //!   what is lowest in the lanes. Worlds and joined threads share it.
 //! - `whole_ending` follows the plan back and computes the bound; `rows_for` makes rows behind
 //!   that, or the bound is given alone.
-//! - An ending is a bound for want of memory only where the run was halted for it, or where the
-//!   goal is known (`EndsIn`). Soundness gives each predecessor, so nothing is tested afterwards.
+//! - An ending is a bound for memory only where the run was halted for it, or where the goal is
+//!   known (`EndsIn`). Soundness gives each predecessor, so nothing is tested afterwards.
 //! - Laws compare endings with outcomes (`endings_lack_rows_alone`, `bounds_lack_rows_alone`).
 //!   `bench/finish` times it.
 //! - Start with `specs/Parts.antt`, `specs/Endings.antt`, then `src/outcome.rt`.
