@@ -19,6 +19,7 @@ use Rattle.board.proofs.MoveLemmas.{cell_below, blank_after, moved_board, taken_
 use Rattle.board.proofs.PlanLemmas.{one_more, led_board}
 use Rattle.board.proofs.ClassLemmas.{same_class_led}
 use Rattle.board_lists.specs.Classes.{IsOfClass}
+use Rattle.board_lists.specs.Laws.{NoMoveIsTakenBack}
 use Rattle.board_lists.specs.Walks.{IsNotBack, TakesNoneBack, IsWalkedTo}
 use Rattle.board_lists.specs.Walks.{takes_back, leads_on}
 
@@ -99,6 +100,13 @@ last_of-more last (n ∷ plan) m = last_of-more (Some n) plan m
 none_back-more : (last : Option Move) (plan : List Move) (m : Move) → TakesNoneBack last plan → IsNotBack (last_of last plan) m → TakesNoneBack last (plan ++ m ∷ [])
 none_back-more last [] m none on = (on, tt)
 none_back-more last (n ∷ plan) m none on = (none.0, none_back-more (Some n) plan m none.1 on)
+
+none_back-at : (last : Option Move) (before after : List Move) (m m' : Move) → TakesNoneBack last (before ++ m ∷ m' ∷ after) → m ≢ opposite m'
+none_back-at last [] after m m' none same = none.1.0 (ap Some same)
+none_back-at last (n ∷ before) after m m' none same = none_back-at (Some n) before after m m' none.1 same
+
+pub none_taken_back : NoMoveIsTakenBack
+none_taken_back before after m m' none = none_back-at None before after m m' none
 
 -- a move that leads on doesn't take the last one back
 goes_on : (b : BoardModel) (last : Option Move) (m : Move) → leads_on b last m ≡ true → IsNotBack last m

@@ -1,9 +1,11 @@
 -- The laws of the definitions. Each is the contract of a function that does nothing.
-use Rattle.std.specs.Prelude.{ℕ, ◌≢◌, ◌<◌, ◌^◌}
+use Rattle.std.specs.Prelude.{ℕ, ◌≢◌, ◌<◌, ◌^◌, List, ◌∷◌, ◌++◌, None}
+use Rattle.board.specs.declared.moves.Move.{Move}
+use Rattle.board.specs.Neighbours.{opposite}
 use Rattle.board.specs.Boards.{BoardModel, IsBoard}
 use Rattle.batch_lines.specs.Words.{IsEntry}
 use Rattle.board_lists.specs.Classes.{IsOfClass}
-use Rattle.board_lists.specs.Walks.{IsWalkedTo}
+use Rattle.board_lists.specs.Walks.{IsWalkedTo, TakesNoneBack}
 use Rattle.board_lists.specs.Lines.{id_text, entry_text}
 
 -- the line of a board is read as this id and this board
@@ -17,3 +19,7 @@ WalksKeepTheClass = (goal : BoardModel) (moves : ℕ) (b : BoardModel) → IsBoa
 -- a walk of two moves is not back at the goal, since no move takes back the one before it
 abbrev pub TwoMovesLeadAway : Type 0
 TwoMovesLeadAway = (goal b : BoardModel) → IsBoard goal → IsWalkedTo goal 2 b → b ≢ goal
+
+-- wherever two moves of a walk stand, the second doesn't take back the first
+abbrev pub NoMoveIsTakenBack : Type 0
+NoMoveIsTakenBack = (before after : List Move) (m m' : Move) → TakesNoneBack None (before ++ m ∷ m' ∷ after) → m ≢ opposite m'

@@ -1,6 +1,7 @@
 //! The laws of the definitions: each is the contract of a function that does nothing.
 
 ghost use Rattle.board_lists.specs.Laws.{LinesNameBoards, WalksKeepTheClass, TwoMovesLeadAway};
+ghost use Rattle.board_lists.specs.Laws.{NoMoveIsTakenBack};
 ghost use Rattle.board_lists.specs.Worked.{TwoAreListed};
 
 /// The line of a board is read as its id and the board.
@@ -16,6 +17,12 @@ pub fn walks_keep_the_class()
 /// A walk of two moves is not back at the goal.
 pub fn two_moves_lead_away()
     ensures { TwoMovesLeadAway }
+{}
+
+/// No move of a walk takes back the one before it, wherever they stand.
+#[tactic(auto, using(crate::proofs::WalkLemmas::none_taken_back))]
+pub fn no_move_is_taken_back()
+    ensures { NoMoveIsTakenBack }
 {}
 
 /// The lines of two boards.

@@ -1,5 +1,5 @@
 -- The laws of the tables that plans are checked with. Each is the contract of a function that does nothing.
-use Rattle.std.specs.Prelude.{◌≡◌, ℕ, Option, Some, Vec}
+use Rattle.std.specs.Prelude.{◌≡◌, ◌≤◌, ◌<◌, ◌^◌, ℕ, Option, Some, Vec, length}
 use Rattle.std.specs.declared.alloc.Global.{Global}
 use Rattle.board.specs.declared.moves.Move.{Move}
 use Rattle.board.specs.Boards.{BoardModel}
@@ -11,12 +11,14 @@ use Rattle.lower_bound.specs.Lists.{IsFoldedBound}
 use Rattle.world_model.specs.Shapes.{IsTask}
 use Rattle.board.specs.Plans.{Leads}
 use Rattle.board.specs.Rows.{Proves}
+use Rattle.certificate.specs.declared.certificate.TheConstants.{GREATEST_BOUND}
+use Rattle.certificate.specs.Certificates.{AreCostsOf, IsCertificate}
 use Rattle.certificate_check.specs.Refusals.{IsProved, sum_in}
 use Rattle.hda_run.specs.Jobs.{JobModel, task_in}
 use Rattle.certificate_check.specs.declared.refusals.Refusal.{Refusal}
 use Rattle.thread_runs.specs.Solved.{IsSolved}
 use Rattle.outcomes.specs.declared.outcome.Outcome.{Outcome}
-use Rattle.checked_runs.specs.Checked.{IsProvedWith, IsCheckedRun, IsRefusedRun}
+use Rattle.checked_runs.specs.Checked.{IsProvedWith, IsCheckedRun, IsRefusedRun, IsUncertifiedPlan}
 use Rattle.checked_runs.specs.Certificates.{AreAsGood, certificate_in, bound_certificate_in}
 
 -- whole tables are as good as themselves, where they are potentials
@@ -53,6 +55,19 @@ PlansAreAccepted =
     → Answers (task_in p) (Optimal cost plan rows)
     → IsProved (certificate_in p cost plan.items rows.items) tables
 
+-- and it is a certificate, where the problem's tables and costs are those of certificates, and the bound and the count of rows fit into one
+abbrev pub BoundsHaveCertificates : Type 0
+BoundsHaveCertificates =
+    (p : JobModel) (bound : ℕ) (best : Option (ℕ × Vec Move Global)) (cause : Cause) (rows : Vec (BoardModel × ℕ) Global)
+    → IsTask (task_in p)
+    → IsTables p.tables
+    → p.tables.split.grid ≡ p.goal.grid
+    → AreCostsOf p.goal.grid p.rule
+    → bound ≤ GREATEST_BOUND
+    → length rows.items < 2 ^ 64
+    → Answers (task_in p) (Bounded bound best cause (Some rows))
+    → IsCertificate (bound_certificate_in p bound rows.items)
+
 -- a plan that is called least, and is proved with these tables, leads from the problem's start to its goal at its cost, which its rows prove with their sums
 abbrev pub ProvedPlansAreLeast : Type 0
 ProvedPlansAreLeast =
@@ -61,6 +76,13 @@ ProvedPlansAreLeast =
     → Leads p.rule p.start plan.items p.goal cost × Proves p.rule rows.items (sum_in tables) p.start p.goal cost
 
 module _ {S : Type 0} (owner_of : S → ℕ → BoardModel → ℕ) where
+  -- the bound that is given for a plan without groups for its certificate is the plan's cost
+  abbrev pub UncertifiedPlansGiveTheirCost : Type 0
+  UncertifiedPlansGiveTheirCost =
+      (p : JobModel) (owners : S) (n bound : ℕ) (best : Option (ℕ × Vec Move Global)) (cause : Cause) (rows : Option (Vec (BoardModel × ℕ) Global))
+      → IsUncertifiedPlan owner_of p owners n (Bounded bound best cause rows)
+      → (plan : Vec Move Global) × (proof : Vec (BoardModel × ℕ) Global) × IsSolved owner_of p owners n (Optimal bound plan proof)
+
   -- for the outcome of a checked run, and for a certificate that is refused, there is an outcome that n workers answer, or one alone
   abbrev pub CheckedRunsAreRuns : Type 0
   CheckedRunsAreRuns =

@@ -2,8 +2,10 @@
 
 ghost use Rattle.checked_runs.specs.Laws.{OwnTablesAreAsGood, TablesFoldedFromAreAsGood};
 ghost use Rattle.checked_runs.specs.Laws.{BoundsAreAccepted, PlansAreAccepted, ProvedPlansAreLeast};
-ghost use Rattle.checked_runs.specs.Laws.{CheckedRunsAreRuns};
+ghost use Rattle.checked_runs.specs.Laws.{BoundsHaveCertificates, CheckedRunsAreRuns};
+ghost use Rattle.checked_runs.specs.Laws.{UncertifiedPlansGiveTheirCost};
 
+use board::laws::keys_are_in_order;
 use owners::Spread;
 
 /// The tables of a problem are as good as themselves, where they are whole and potentials: no
@@ -24,6 +26,14 @@ pub fn bounds_are_accepted()
     ensures { BoundsAreAccepted }
 {}
 
+/// The rows of such a bound make a certificate of version 2.
+#[tactic(auto, using(crate::proofs::OutcomeLemmas::bound_certificate_is))]
+pub fn bounds_have_certificates()
+    ensures { BoundsHaveCertificates }
+{
+    keys_are_in_order();
+}
+
 /// The checker accepts the plan and the rows of each optimal outcome that answers a problem, with
 /// tables as good. `World::finish`, `solve` and `solve_one` ensure `Answers`, so it accepts theirs.
 pub fn plans_are_accepted()
@@ -38,7 +48,9 @@ pub fn proved_plans_are_least()
 
 /// For the outcome of a checked run, and for a certificate that is refused, there is an outcome
 /// that n workers answer, or one alone.
-#[tactic(auto, using(crate::proofs::OutcomeLemmas::run_behind))]
+/// Where memory is refused for the groups of a certificate, the bound is the cost of its plan.
+#[tactic(auto, using(crate::proofs::OutcomeLemmas::run_behind, crate::proofs::OutcomeLemmas::cost_given))]
 pub fn checked_runs_are_runs<S: Spread>()
-    ensures { CheckedRunsAreRuns S.owner_of }
+    ensures runs { CheckedRunsAreRuns S.owner_of }
+    ensures costs { UncertifiedPlansGiveTheirCost S.owner_of }
 {}

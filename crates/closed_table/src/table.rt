@@ -126,10 +126,12 @@ impl Closed {
         self.room
     }
 
-    /// Makes places for this many new keys. After a refusal the table is as it was.
+    /// Makes places for this many new keys. It is refused only where there were fewer, and then the
+    /// table is as it was.
     pub fn reserve(&mut self, alloc: Global, count: usize) -> Result<(), OutOfMemory>
         ensures ok { OnOk result (self.new ≡ record self.old { room = max self.old.room count }) }
         ensures err { OnErr result (self.new ≡ self.old) }
+        ensures refused { OnErr result (self.old.room < count) }
     {
         if count <= self.room {
             return Ok(());

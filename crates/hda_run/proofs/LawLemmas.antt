@@ -42,7 +42,7 @@ use Rattle.hda_run.specs.WholeRuns.{IsOfWholeRun, EndsWholeRun, HasWholeRun}
 use Rattle.hda_run.specs.Alone.{AreLast, IsRunAlone, HaltsNowhere, IsHalt}
 use Rattle.hda_run.specs.Headline.{TellsTruth, IsTrueOfBest}
 use Rattle.hda_run.specs.Jobs.{JobModel, task_in}
-use Rattle.hda_run.specs.Laws.{BoundsSpendTheLimit, BoundTruthsAreBelow, HaltsAreDue, OptimalTruthsAgree, OutcomesAreOfTheirSteps, QuietRunsHaveNoHalt, RunsAloneStop, TrueBoundsHaveProofs, TrueRowsProve, TrueRowsProveBounds, UnsolvableTruthsHaveNoPlan}
+use Rattle.hda_run.specs.Laws.{BoundsSpendTheLimit, BoundTruthsAreBelow, HaltsAreDue, OptimalTruthsAgree, OutcomesAreOfTheirSteps, QuietRunsHaveNoHalt, RunsAloneStop, TrueBoundsHaveProofs, TrueRowsProve, TrueRowsProveBounds, UnsolvableTruthsHaveNoPlan, WithoutRowsMemoryWasRefused}
 use Rattle.hda_run.proofs.AloneLemmas.{Made}
 
 -- ---- what one worker that is alone answers
@@ -217,6 +217,9 @@ bounds_prove p bound best cause rows told = told.2.proves
 
 pub proofs_exist : TrueBoundsHaveProofs
 proofs_exist p bound best cause told = (told.2.0, told.2.1.proves)
+
+pub rows_missing : WithoutRowsMemoryWasRefused
+rows_missing p bound best cause told = told.1
 
 -- the step, with its answer, leads to a world that gives the outcome
 abbrev IsOfOne : Job → Step → Outcome → Type 0

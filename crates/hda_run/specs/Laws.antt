@@ -7,7 +7,7 @@ use Rattle.board.specs.Plans.{Leads}
 use Rattle.board.specs.Boards.{BoardModel}
 use Rattle.board.specs.Rows.{Proves}
 use Rattle.outcomes.specs.declared.outcome.Cause.{Cause}
-use Rattle.outcomes.specs.declared.outcome.Cause.TheVariants.{Limit as ForLimit}
+use Rattle.outcomes.specs.declared.outcome.Cause.TheVariants.{Memory, Limit as ForLimit}
 use Rattle.outcomes.specs.declared.outcome.Outcome.{Outcome}
 use Rattle.outcomes.specs.declared.outcome.Outcome.TheVariants.{Optimal, Unsolvable, Bounded}
 use Rattle.outcomes.specs.declared.outcome.Want.{Want}
@@ -137,6 +137,13 @@ TrueBoundsHaveProofs =
     (p : JobModel) (bound : ℕ) (best : Option (ℕ × Vec Move Global)) (cause : Cause)
     → TellsTruth p (Bounded bound best cause None)
     → (rows : List (BoardModel × ℕ)) × Proves p.rule rows (task_in p).sum p.start p.goal bound
+
+-- and it has no plan beside it: memory was refused
+abbrev pub WithoutRowsMemoryWasRefused : Type 0
+WithoutRowsMemoryWasRefused =
+    (p : JobModel) (bound : ℕ) (best : Option (ℕ × Vec Move Global)) (cause : Cause)
+    → TellsTruth p (Bounded bound best cause None)
+    → (best ≡ None) × ((refused : OutOfMemory) × (cause ≡ Memory (Refused refused)))
 
 -- the outcome of one step is given by a world to which just that step leads, with some answer, from the opening one
 abbrev pub OutcomesAreOfTheirSteps : Type 0

@@ -7,6 +7,7 @@ ghost use Rattle.hda_run.specs.Laws.{WithoutABoundTheGoalIsKnown, WaitingBeginsT
 ghost use Rattle.hda_run.specs.Laws.{OptimalTruthsAgree, BoundTruthsAreBelow};
 ghost use Rattle.hda_run.specs.Laws.{UnsolvableTruthsHaveNoPlan, TrueRowsProve};
 ghost use Rattle.hda_run.specs.Laws.{TrueRowsProveBounds, TrueBoundsHaveProofs};
+ghost use Rattle.hda_run.specs.Laws.{WithoutRowsMemoryWasRefused};
 ghost use Rattle.hda_run.specs.Laws.{OutcomesAreOfTheirSteps};
 ghost use Rattle.hda_run.specs.Laws.{OpeningsAreAsAsked, PartsAreAsOwned};
 
@@ -29,7 +30,7 @@ pub fn shown_bounds_are_as_named<S: Spread>()
 {}
 
 /// Outcomes of one problem that tell the truth agree, and their rows prove what they say.
-#[tactic(auto, using(crate::proofs::LawLemmas::optimal, crate::proofs::LawLemmas::bounded, crate::proofs::LawLemmas::unsolvable, crate::proofs::LawLemmas::rows_prove, crate::proofs::LawLemmas::bounds_prove, crate::proofs::LawLemmas::proofs_exist))]
+#[tactic(auto, using(crate::proofs::LawLemmas::optimal, crate::proofs::LawLemmas::bounded, crate::proofs::LawLemmas::unsolvable, crate::proofs::LawLemmas::rows_prove, crate::proofs::LawLemmas::bounds_prove, crate::proofs::LawLemmas::proofs_exist, crate::proofs::LawLemmas::rows_missing))]
 pub fn truths_agree()
     ensures optimal { OptimalTruthsAgree }
     ensures bounded { BoundTruthsAreBelow }
@@ -37,6 +38,7 @@ pub fn truths_agree()
     ensures rows { TrueRowsProve }
     ensures below { TrueRowsProveBounds }
     ensures unlisted { TrueBoundsHaveProofs }
+    ensures refused { WithoutRowsMemoryWasRefused }
 {}
 
 /// The outcome of one step is given by a world to which just that step leads.

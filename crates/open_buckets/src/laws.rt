@@ -1,6 +1,9 @@
 //! The laws of open lists, which are contracts of functions that do nothing.
 
+ghost use Rattle.std.specs.Prelude.{◌≡◌, ◌+◌, ◌*◌};
 ghost use Rattle.open_buckets.specs.Laws.{TheNextIsTaken, TheLastPutIsTaken};
+
+use crate::open::GREATEST_F;
 
 /// The entry that is taken is the one that was looked at.
 pub fn the_next_is_taken<K: Copy>()
@@ -11,4 +14,9 @@ pub fn the_next_is_taken<K: Copy>()
 /// no place is lost.
 pub fn the_last_put_is_taken<K: Copy>()
     ensures { TheLastPutIsTaken K }
+{}
+
+/// The greatest f is a cost of 1,048,320, a move of weight 255, and 24 values of 65,535.
+pub fn the_greatest_f()
+    ensures { GREATEST_F ≡ 1048320 + 255 + 24 * 65535 }
 {}

@@ -2,7 +2,7 @@
 use Rattle.std.specs.Prelude.{ℕ, ◌≡◌, ◌+◌, ◌<◌, ◌≤◌, List, Vec, Option, Some, None}
 use Rattle.std.specs.declared.alloc.Global.{Global}
 use Rattle.memory.specs.declared.OutOfMemory.{OutOfMemory}
-use Rattle.board.specs.declared.costs.TheConstants.{GREATEST_COST}
+use Rattle.board.specs.declared.costs.TheConstants.{GREATEST_COST, GREATEST_EXPANDED_COST}
 use Rattle.board.specs.declared.moves.Move.{Move}
 use Rattle.board.specs.Boards.{BoardModel}
 use Rattle.board.specs.Plans.{Leads}
@@ -11,7 +11,7 @@ use Rattle.board.specs.Rows.{Proves}
 use Rattle.outcomes.specs.declared.outcome.Why.{Why}
 use Rattle.outcomes.specs.declared.outcome.Why.TheVariants.{Parity}
 use Rattle.outcomes.specs.declared.outcome.Cause.{Cause}
-use Rattle.outcomes.specs.declared.outcome.Cause.TheVariants.{Memory}
+use Rattle.outcomes.specs.declared.outcome.Cause.TheVariants.{Cost, Memory}
 use Rattle.outcomes.specs.declared.outcome.Want.TheVariants.{Refused}
 use Rattle.outcomes.specs.declared.outcome.Outcome.{Outcome}
 use Rattle.outcomes.specs.declared.outcome.Outcome.TheVariants.{Optimal, Unsolvable, Bounded}
@@ -85,6 +85,11 @@ BoundsAreLow =
     → EndAnswers task (ending.Bounded bound best cause)
     → IsAboveSums task most
     → bound ≤ GREATEST_COST + most
+
+-- the cost is the cause only where each plan costs more than a run may reach
+abbrev pub BoundsForCostAreHigh : Type 0
+BoundsForCostAreHigh =
+    (task : Task) (bound : ℕ) (best : Option (ℕ × Vec Move Global)) → EndAnswers task (ending.Bounded bound best Cost) → GREATEST_EXPANDED_COST < bound
 
 -- what answers a task does so without rows too
 abbrev pub RowsCanBeLeft : Type 0

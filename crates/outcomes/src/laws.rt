@@ -3,7 +3,12 @@
 ghost use Rattle.outcomes.specs.Laws.{OptimalsAgree, OptimalsAreSolvable, BoundsAreBelow};
 ghost use Rattle.outcomes.specs.Laws.{ParityIsOfAnotherClass, BestPlansAreAbove};
 ghost use Rattle.outcomes.specs.Laws.{RowsProveBounds, BoundsLackRowsForMemory, EndingsHaveProofs};
-ghost use Rattle.outcomes.specs.Laws.{BoundsAreLow, BoundsReachTheStart, RowsCanBeLeft};
+ghost use Rattle.outcomes.specs.Laws.{BoundsAreLow, BoundsReachTheStart, BoundsForCostAreHigh};
+ghost use Rattle.outcomes.specs.Laws.{RowsCanBeLeft};
+ghost use Rattle.std.specs.Prelude.{◌≡◌, ◌↔◌, IsTrue};
+
+use crate::faults::SolveFault;
+use crate::outcome::{Cause, Why};
 
 /// Optimal outcomes of one task have one cost.
 pub fn optimals_agree()
@@ -41,6 +46,32 @@ pub fn bounds_are_low()
     ensures low { BoundsAreLow }
     ensures start { BoundsReachTheStart }
 {}
+
+/// A bound for the cost is above the greatest cost at which a run expands a board.
+pub fn bounds_for_cost_are_high()
+    ensures { BoundsForCostAreHigh }
+{}
+
+/// Two reasons are equal only if they are the same.
+pub fn reasons_are_compared(a: Why, b: Why) -> bool
+    ensures { IsTrue result ↔ (a ≡ b) }
+{
+    a == b
+}
+
+/// Two causes are equal only if they are the same.
+pub fn causes_are_compared(a: Cause, b: Cause) -> bool
+    ensures { IsTrue result ↔ (a ≡ b) }
+{
+    a == b
+}
+
+/// Two faults are equal only if they are the same.
+pub fn faults_are_compared(a: SolveFault, b: SolveFault) -> bool
+    ensures { IsTrue result ↔ (a ≡ b) }
+{
+    a == b
+}
 
 /// Rows that prove what an ending says of a cost exist, though it lists none.
 pub fn endings_have_proofs()

@@ -47,11 +47,12 @@ module _ {X : Type 0} where
   some_at (x ∷ xs) (suc j) low = some_at xs j (omega (arith, low))
 
   -- the places after one that has changed
-  pub get_later : (xs : List X) (i k : ℕ) (q : X) → i < k → slice_get (set xs i q) k ≡ slice_get xs k
-  get_later [] i k q low = refl
-  get_later (x ∷ xs) i zero q low = absurd (omega (arith, low))
-  get_later (x ∷ xs) zero (suc k) q low = refl
-  get_later (x ∷ xs) (suc i) (suc k) q low = get_later xs i k q (omega (arith, low))
+  pub get_other : (xs : List X) (i k : ℕ) (q : X) → k ≢ i → slice_get (set xs i q) k ≡ slice_get xs k
+  get_other [] i k q other = refl
+  get_other (x ∷ xs) zero zero q other = absurd (other refl)
+  get_other (x ∷ xs) zero (suc k) q other = refl
+  get_other (x ∷ xs) (suc i) zero q other = refl
+  get_other (x ∷ xs) (suc i) (suc k) q other = get_other xs i k q (λ same. other (ap suc same))
 
 module _ (n i : ℕ) (outs ins ins' : List (List Ring)) (row : List Ring) (grid : IsGrid n i outs ins) (len : length outs ≡ i) (wide : length row ≡ n)
     (more : (j : ℕ) (d : Ring) → j < n → slice_index_or ins' j [] ≡ slice_index_or ins j [] ++ slice_index_or row j d ∷ []) where

@@ -1,7 +1,7 @@
 //! The rings of a run.
 
 ghost use Rattle.std.specs.Prelude.{ℕ, ◌≡◌, ◌≤◌, ◌<◌, ◌∷◌, ◌++◌, [], length, vec_len};
-ghost use Rattle.std.specs.Prelude.{IfOk, Some, slice_get, slice_index_or};
+ghost use Rattle.std.specs.Prelude.{IfOk, ◌≢◌, Some, slice_get, slice_index_or};
 ghost use Rattle.world_model.specs.declared.limits.TheConstants.{LANE_LIMIT};
 ghost use Rattle.rings.specs.Rings.{Ring, out_rings, in_rings, sent_lanes, received_lanes};
 ghost use Rattle.rings.specs.Rings.{rings_of_ins, received_rows};
@@ -55,11 +55,11 @@ pub fn open_rings<C: Counting>(alloc: Global, n: usize) -> Result<Rings<C>, NoMe
 }
 
 /// Takes one row out of its place, where an empty one is left.
-#[tactic(auto, using(crate::proofs::GridLemmas::get_later))]
+#[tactic(auto, using(crate::proofs::GridLemmas::get_other))]
 pub fn take_row<T: Drop>(alloc: Global, rows: &mut Vec<Vec<T>>, at: usize) -> Vec<T>
     requires { at < vec_len rows.old }
     ensures row { slice_get rows.old.items at ≡ Some result }
-    ensures later { (k : ℕ) → at < k
+    ensures others { (k : ℕ) → k ≢ at
         → slice_get rows.new.items k ≡ slice_get rows.old.items k }
     ensures len { vec_len rows.new ≡ vec_len rows.old }
 {

@@ -32,11 +32,11 @@ use Rattle.world_model.proofs.RunLemmas.{openings_sound}
 use Rattle.world_model.proofs.ShapeKept.{shaped_same, steps_shaped}
 use Rattle.world_model.proofs.CreditLemmas.{steps_credited}
 use Rattle.thread_model.specs.Parts.{IsRole, Keeps, PartState}
-use Rattle.thread_model.specs.Changes.{with_packet, IsBookStep, IsPartStep, Receives, Sends, StepsAlone, part_with_worker}
+use Rattle.thread_model.specs.Changes.{with_packet, IsBookStep, IsPartStep, Receives, Sends, StepsAlone, StepsAtBook, part_with_worker}
 use Rattle.thread_model.specs.Joined.{IsAt, IsOfParts, shared_by, workers_of, opening_parts}
-use Rattle.thread_model.specs.Laws.{NothingHeldIsForeign, RunsAreOfParts, StepsAreOfParts}
+use Rattle.thread_model.specs.Laws.{NothingHeldIsForeign, PartStepsAreKept, RunsAreOfParts, StepsAreOfParts}
 use Rattle.thread_model.proofs.JoinedLemmas.{ends_of, part_of, part_shaped, openings_of_parts}
-use Rattle.thread_model.proofs.LaneKept.{before, lane_cases, longer, receiving_kept, sending_kept}
+use Rattle.thread_model.proofs.LaneKept.{before, book_steps_kept, lane_cases, longer, receiving_kept, sending_kept}
 use Rattle.thread_model.proofs.WorkerKept.{expanding_kept, settling_kept, worker_kept}
 
 -- ---- a step of a world that is of joined parts leads to one that is
@@ -510,3 +510,24 @@ pub runs_of_parts : RunsAreOfParts
 runs_of_parts job via made w is run =
     let begins = openings_sound job via is in
     run_has_parts (opening job via) made w run begins.0 begins.2 (opening_parts job via, openings_of_parts job via is)
+
+-- ---- whatever step a part takes, it keeps what it keeps
+
+pub part_steps_kept : PartStepsAreKept
+part_steps_kept n role part part' is keeps own purse to_one from_one step = split step
+  where
+    alone : (it : StepsAlone role part part') → Keeps n role part'
+    alone it =
+        subst (λ (p : PartState). Keeps n role p) (sym it.3)
+        (⊎_elim (λ (e : ExpandStep role (turn part.worker it.0 it.1)). expanding_kept n role part it.0 it.1 is keeps (inl e))
+        (λ (s : SettleStep (turn part.worker it.0 it.1)). settling_kept n role part it.0 it.1 is keeps own s)
+        it.2)
+
+    at_book : (it : StepsAtBook role part part') → Keeps n role part'
+    at_book it = subst (λ (p : PartState). Keeps n role p) (sym it.5) (book_steps_kept n role part it.2 it.3 it.0 it.1 is keeps purse it.4)
+
+    split : IsPartStep role part part' → Keeps n role part'
+    split (inl it) = alone it
+    split (inr (inl it)) = at_book it
+    split (inr (inr (inl sends))) = sending_kept n sends.0 role part part' is (to_one sends.0 sends.1) keeps sends.1
+    split (inr (inr (inr comes))) = receiving_kept n comes.0 role part part' is (from_one comes.0 comes.1) keeps comes.1

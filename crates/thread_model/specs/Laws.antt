@@ -1,5 +1,5 @@
 -- The laws of parts.
-use Rattle.std.specs.Prelude.{◌≡◌, ◌≢◌, ◌⊎◌, ℕ, ◌+◌, ◌≤◌, ◌<◌, List, length, All, Option, Some, slice_get, slice_set}
+use Rattle.std.specs.Prelude.{◌≡◌, ◌≢◌, ◌⊎◌, ℕ, ◌+◌, ◌≤◌, ◌<◌, List, [], length, All, Option, Some, slice_get, slice_set}
 use Rattle.board.specs.declared.moves.Move.{Move}
 use Rattle.board.specs.Boards.{BoardModel}
 use Rattle.world_model.specs.declared.steps.Refusal.{Refusal}
@@ -68,6 +68,24 @@ BookStepsAreKept =
     → part.worker.purse ≢ 0
     → IsBookStep role (turn (record { worker = part.worker; book = book }) answer (record { worker = worker; book = book' }))
     → Keeps n role (part_with_worker part worker)
+
+-- so does one that takes any step by which the parts of a world change: it settles what is its own, its purse is not empty, and a packet goes
+-- to one of the workers or comes from one
+abbrev pub PartStepsAreKept : Type 0
+PartStepsAreKept =
+    (n : ℕ) (role : Role) (part part' : PartState)
+    → IsRole n role
+    → Keeps n role part
+    → HoldsOwnLast role part.worker
+    → part.worker.purse ≢ 0
+    → ((to : ℕ) → Sends to part part' → to < n)
+    → ((from : ℕ) → Receives from part part' → from < n)
+    → IsPartStep role part part'
+    → Keeps n role part'
+
+-- what comes has an item
+abbrev pub PacketsHaveItems : Type 0
+PacketsHaveItems = (from : ℕ) (part part' : PartState) → Receives from part part' → part'.worker.held ≢ []
 
 -- a part with which a run begins keeps that: the start's owner knows the start, and the others know nothing
 abbrev pub OpeningsAreKept : Type 0

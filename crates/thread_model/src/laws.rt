@@ -2,7 +2,7 @@
 
 ghost use Rattle.thread_model.specs.Laws.{ExpandingIsKept, SettlingIsKept, DroppingIsKept};
 ghost use Rattle.thread_model.specs.Laws.{SendingIsKept, ReceivingIsKept, BookStepsAreKept};
-ghost use Rattle.thread_model.specs.Laws.{OpeningsAreKept};
+ghost use Rattle.thread_model.specs.Laws.{PartStepsAreKept, PacketsHaveItems, OpeningsAreKept};
 ghost use Rattle.thread_model.specs.Laws.{JoinedPartsAreSound, JoinedPartsAreQuiet};
 ghost use Rattle.thread_model.specs.Laws.{NothingHeldIsForeign};
 ghost use Rattle.thread_model.specs.Laws.{OpeningsAreOfParts, StepsAreOfParts, RunsAreOfParts};
@@ -15,6 +15,11 @@ pub fn steps_are_kept()
     ensures send { SendingIsKept }
     ensures receive { ReceivingIsKept }
     ensures book { BookStepsAreKept }
+{}
+
+/// What comes has an item.
+pub fn packets_have_items()
+    ensures { PacketsHaveItems }
 {}
 
 /// So does a part with which a run begins.
@@ -37,9 +42,11 @@ pub fn nothing_held_is_foreign()
     ensures { NothingHeldIsForeign }
 {}
 
-/// Each world of a run is that of parts which are joined.
+/// Each world of a run is that of parts which are joined. A part keeps what it keeps, whatever step
+/// of a world it takes.
 pub fn runs_are_of_parts()
     ensures opening { OpeningsAreOfParts }
     ensures step { StepsAreOfParts }
     ensures run { RunsAreOfParts }
+    ensures kept { PartStepsAreKept }
 {}

@@ -17,6 +17,7 @@
 
 mod book_steps;
 mod lane_steps;
+pub mod laws;
 mod opening;
 mod own_steps;
 mod part;

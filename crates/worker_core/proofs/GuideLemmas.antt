@@ -8,9 +8,9 @@ use Rattle.std.proofs.lemmas.List.Elements.{Contains-push}
 use Rattle.std.proofs.lemmas.Option.{none-some, slice_get_within}
 use Rattle.arrayvec.specs.ArrayVec.{ArrayVec}
 use Rattle.memory.specs.declared.OutOfMemory.{OutOfMemory}
-use Rattle.search_keys.specs.SearchKeys.{search_key}
+use Rattle.search_keys.specs.SearchKeys.{search_key, HasSearchKey}
 use Rattle.board.specs.Boards.{BoardModel}
-use Rattle.search_keys.proofs.SearchKeyLemmas.{one_board as same_board}
+use Rattle.search_keys.proofs.SearchKeyLemmas.{key_read, one_board as same_board}
 use Rattle.outcomes.specs.Outcomes.{Task}
 use Rattle.world_model.specs.declared.parts.Item.{Item}
 use Rattle.world_model.specs.Workers.{Packet, WorkerState, IsOpen, HasNothingBelow, IsFloor, Role}
@@ -30,7 +30,7 @@ use Rattle.search_lists.specs.Orders as orders
 use Rattle.search_lists.specs.Orders.{Guide, IsInOrder, NoneBelow, IsLeastOpen}
 use Rattle.worker_core.specs.Workers.{packets_of}
 use Rattle.worker_core.specs.Contexts.{ContextModel, task_from}
-use Rattle.worker_core.specs.Roles.{IsGuideOf, IsGuided}
+use Rattle.worker_core.specs.Roles.{IsGuideOf, IsGuided, TasksHaveGuides}
 use Rattle.worker_core.specs.Serving.{StayInOrder, StaysGuided}
 use Rattle.worker_core.specs.Settling.{IsForeign, IsOwn, RefusedSettlesChangeNothing, SettleOrDrop}
 
@@ -242,3 +242,15 @@ refused_settles role it refusal (inr (accepted, dropped)) answer = absurd (none-
 pub stays_guided : {S : Type 0} (context : ContextModel S) (old new : SearchListsModel) → StayInOrder context old new → StaysGuided context old new
 stays_guided context old new stay start guide is =
     record { guides = is.guides; order = stay.order start guide is.guides is.order; boards = stay.boards (task_from start context) refl is.boards }
+
+-- ---- laws
+
+-- a guide leads to the goal of each task
+pub tasks_guided : TasksHaveGuides
+tasks_guided task board = record {
+  ends = refl;
+  board = board;
+  sums = λ b at.
+      let has : HasSearchKey task.goal.grid (search_key b) b = record { board = at.0; sides = at.1; packed = refl } in
+      ap task.sum (key_read (record { shape = task.goal.grid; key = search_key b }) b has);
+}

@@ -1,5 +1,6 @@
 -- How a worker takes what the moves from a board offer, one after the other.
-use Rattle.std.specs.Prelude.{⊤, ℕ, ◌≡◌, ◌≢◌, ◌⊎◌, ◌+◌, ◌<◌, ◌≤◌, List, [], ◌∷◌, length, slice_index_or, Option, Some, None, IfSome, OnErr, OnOk, Result}
+use Rattle.std.specs.Prelude.{⊤, ℕ, ◌≡◌, ◌≢◌, ◌⊎◌, ◌+◌, ◌<◌, ◌≤◌, List, [], ◌∷◌, length, slice_index_or, Option, Some, None, IfSome, Err, OnErr, OnOk, Result}
+use Rattle.memory.specs.declared.OutOfMemory.{OutOfMemory}
 use Rattle.board.specs.declared.moves.Move.{Move}
 use Rattle.board.specs.declared.moves.Move.TheVariants.{U, L, R, D}
 use Rattle.board.specs.Shapes.{ShapeModel}
@@ -23,7 +24,9 @@ use Rattle.world_model.specs.Workers.{IsNext, WorkerState, Packet, Role}
 use Rattle.world_model.specs.WorkerSteps.{ExpandStep, ExpandOnwardStep}
 use Rattle.world_model.specs.Turns.{Turn}
 use Rattle.world_model.specs.declared.steps.Refusal.{Refusal}
+use Rattle.world_model.specs.declared.steps.Refusal.TheVariants.{Memory}
 use Rattle.worker_core.specs.Roles.{WereReached}
+use Rattle.worker_core.specs.Workers.{IfMemoryRefused}
 use Rattle.worker_core.specs.declared.expanding.Successors.{Successors}
 use Rattle.worker_core.specs.declared.expanding.Successors.TheVariants.{All, Onward}
 
@@ -122,6 +125,14 @@ ThreePlacesAreTooFew = (me : ℕ) (lists : SearchListsModel) (offers : Offers) �
 -- what other workers own needs no places
 abbrev pub OthersNeedNoPlaces : Type 0
 OthersNeedNoPlaces = (me : ℕ) (lists : SearchListsModel) (offers : Offers) → 4 ≤ lists.closed.room → OfEach (λ offer. offer.owner ≢ me) offers → HasAllPlaces me lists offers
+
+-- with four places everywhere none is lacking for an expansion: memory isn't refused then
+abbrev pub FourPlacesAreNotLacking : Type 0
+FourPlacesAreNotLacking = (refused : OutOfMemory) (successors : Successors) (role : Role) (worker : WorkerState) (lists : SearchListsModel) → 4 ≤ lists.closed.room → ((f : ℕ) → 4 ≤ places_at lists.waiting f) → ¬ IfMemoryRefused {T = ℕ} (Err (Memory refused)) (LacksPlacesToExpand successors role worker lists)
+
+-- where places are lacking, a board is next
+abbrev pub SomethingIsNextWherePlacesLack : Type 0
+SomethingIsNextWherePlacesLack = (successors : Successors) (role : Role) (worker : WorkerState) (lists : SearchListsModel) → LacksPlacesToExpand successors role worker lists → (b : BoardModel) × (known : Known) × IsNext role.task worker b known
 
 -- what is offered adds up by this guide
 abbrev pub AddsUpBy : Guide → Offer → Type 0

@@ -1,6 +1,7 @@
 -- How a worker settles the last item that it holds.
-use Rattle.std.specs.Prelude.{◌≡◌, ◌⊎◌, ◌+◌, ◌<◌, ℕ, true, List, [], ◌∷◌, ◌++◌, None, Some}
+use Rattle.std.specs.Prelude.{◌≡◌, ◌⊎◌, ◌+◌, ◌<◌, ℕ, true, false, Err, List, [], ◌∷◌, ◌++◌, None, Some}
 use Rattle.std.specs.FinMap as map
+use Rattle.memory.specs.declared.OutOfMemory.{OutOfMemory}
 use Rattle.lower_bound.specs.Bounds.{sum_of}
 use Rattle.lower_bound.specs.Tables.{parts_of}
 use Rattle.open_buckets.specs.OpenLists.{places_at}
@@ -8,6 +9,7 @@ use Rattle.search_keys.specs.SearchKeys.{search_key}
 use Rattle.search_lists.specs.Lists.{SearchListsModel}
 use Rattle.world_model.specs.declared.parts.Item.{Item}
 use Rattle.world_model.specs.declared.steps.Refusal.{Refusal}
+use Rattle.world_model.specs.declared.steps.Refusal.TheVariants.{Memory}
 use Rattle.world_model.specs.Knowledge.{is_news}
 use Rattle.world_model.specs.Shapes.{IsItemFor}
 use Rattle.world_model.specs.Turns.{Turn}
@@ -15,7 +17,7 @@ use Rattle.world_model.specs.Workers.{WorkerState, Role}
 use Rattle.world_model.specs.WorkerSteps.{SettleStep}
 use Rattle.thread_model.specs.Changes.{DropStep, HoldsOwnLast}
 use Rattle.worker_core.specs.Contexts.{ContextModel}
-use Rattle.worker_core.specs.declared.worker.Worker.{Worker}
+use Rattle.worker_core.specs.Workers.{IfMemoryRefused}
 
 -- the item is the worker's own: a board with the goal's sides that it owns, at a cost of at most `GREATEST_COST`
 abbrev pub IsOwn : Role → Item → Type 0
@@ -43,6 +45,18 @@ pub record LacksPlaceFor {S : Type 0} (context : ContextModel S) (item : Item) (
   pub news : is_news (map.get lists.closed.known (search_key item.board)) item.cost ≡ true
   pub no_place : ¬ HasPlaceAt (item.cost + sum_of (parts_of context.tables) item.board) lists
 
--- so it is for the last item that the worker holds
-abbrev pub LacksPlaceForLast : {S C D E K G : Type 0} → ContextModel S → Worker C D E K G → Type 0
-LacksPlaceForLast context worker = (front : List Item) × (last : Item) × (worker.held.items ≡ front ++ last ∷ []) × LacksPlaceFor context last worker.lists
+-- so it is for the last of the items that a worker holds
+abbrev pub LacksPlaceForLast : {S : Type 0} → ContextModel S → List Item → SearchListsModel → Type 0
+LacksPlaceForLast context held lists = (front : List Item) × (last : Item) × (held ≡ front ++ last ∷ []) × LacksPlaceFor context last lists
+
+-- where nothing is held, no place is lacking
+abbrev pub NothingHeldLacksNothing : Type 0 → Type 0
+NothingHeldLacksNothing S = (context : ContextModel S) (lists : SearchListsModel) → ¬ LacksPlaceForLast context [] lists
+
+-- a cost that is no news lacks no place
+abbrev pub NoNewsLacksNothing : Type 0 → Type 0
+NoNewsLacksNothing S = (context : ContextModel S) (item : Item) (lists : SearchListsModel) → is_news (map.get lists.closed.known (search_key item.board)) item.cost ≡ false → ¬ LacksPlaceForLast context (item ∷ []) lists
+
+-- one place for a board, and one at each f, are enough: memory isn't refused then
+abbrev pub OnePlaceIsEnough : Type 0 → Type 0
+OnePlaceIsEnough S = (refused : OutOfMemory) (context : ContextModel S) (held : List Item) (lists : SearchListsModel) → 0 < lists.closed.room → ((f : ℕ) → 0 < places_at lists.waiting f) → ¬ IfMemoryRefused {T = ℕ} (Err (Memory refused)) (LacksPlaceForLast context held lists)

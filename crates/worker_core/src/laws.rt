@@ -5,12 +5,18 @@ ghost use Rattle.worker_core.specs.Expanding.{FourPlacesAreEnough, ThreePlacesAr
 ghost use Rattle.worker_core.specs.Expanding.{OthersNeedNoPlaces, OnwardStepsAloneAreWhole};
 ghost use Rattle.worker_core.specs.Lanes.{IsAtSender, IsAtReceiver};
 ghost use Rattle.worker_core.specs.Roles.{TasksHaveGuides};
+ghost use Rattle.worker_core.specs.Expanding.{FourPlacesAreNotLacking};
+ghost use Rattle.worker_core.specs.Expanding.{SomethingIsNextWherePlacesLack};
 ghost use Rattle.worker_core.specs.Settling.{RefusedSettlesChangeNothing};
+ghost use Rattle.worker_core.specs.Settling.{NothingHeldLacksNothing, NoNewsLacksNothing};
+ghost use Rattle.worker_core.specs.Settling.{OnePlaceIsEnough};
 
 use crate::lanes::{LaneIn, LaneOut, Queue};
 use message_ledger::{Counting, Packet};
+use owners::Spread;
 
 /// A guide leads to the goal of each task.
+#[tactic(auto, using(crate::proofs::GuideLemmas::tasks_guided))]
 pub fn tasks_have_guides()
     ensures { TasksHaveGuides }
 {}
@@ -28,6 +34,20 @@ pub fn three_places_are_too_few()
 /// What other workers own needs no places.
 pub fn others_need_no_places()
     ensures { OthersNeedNoPlaces }
+{}
+
+/// Memory is refused for an expansion only where a board is next, and a place is lacking for what
+/// its moves offer.
+pub fn expansions_lack_places()
+    ensures enough { FourPlacesAreNotLacking }
+    ensures next { SomethingIsNextWherePlacesLack }
+{}
+
+/// Memory is refused for an item only where one is held, its cost is news, and a place is lacking.
+pub fn items_lack_a_place<S: Spread>()
+    ensures held { NothingHeldLacksNothing S }
+    ensures news { NoNewsLacksNothing S }
+    ensures enough { OnePlaceIsEnough S }
 {}
 
 /// Alone, a worker that leaves the move back out expands by all moves.

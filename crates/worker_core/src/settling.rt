@@ -36,7 +36,8 @@ impl<C: Counting> Worker<C> {
     ) -> Result<(), Refusal>
         ensures step { (start : BoardModel) → SettleOrDrop (role_from S.owner_of start context.now)
             (turn (state_of self.old) (refusal_in result) (state_of self.new)) }
-        ensures refused { IfMemoryRefused result (LacksPlaceForLast context.now self.old) }
+        ensures refused { IfMemoryRefused result (LacksPlaceForLast context.now
+            self.old.held.items self.old.lists) }
         ensures keeps { KeepsInOrder context.now self.old self.new }
     {
         let Some(item) = self.held.last() else {

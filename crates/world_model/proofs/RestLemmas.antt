@@ -20,7 +20,7 @@ use Rattle.world_model.specs.Books.{BookState}
 use Rattle.world_model.specs.Costs.{IsNotBelow, limit_of}
 use Rattle.world_model.specs.Expansions.{expansion, successor_items, with_closure}
 use Rattle.world_model.specs.Knowledge.{relaxation}
-use Rattle.world_model.specs.StepLaws.{BooksAreLeft, FloorsAreHigh, HasHighFloors, LanesAreLeft, LeastIsExpanded, MemoryIsLast, OthersAreLeft, RestsKeepTheFloor, RunsAreJoined, RunsAreOfSteps, UsesBook, UsesLane, worker_of_step}
+use Rattle.world_model.specs.StepLaws.{BooksAreLeft, BookStepsAloneUseIt, FloorsAreHigh, HasHighFloors, LanesAreLeft, LanesHaveTwoEnds, LeastIsExpanded, MemoryIsLast, OthersAreLeft, RestsKeepTheFloor, RunsAreJoined, RunsAreOfSteps, UsesBook, UsesLane, worker_of_step}
 use Rattle.world_model.specs.Steps.{ByWorker, Ends, IsRun, Next, OnBook, OnLane, lane_ends, with_worker}
 use Rattle.world_model.specs.Turns.{Turn, turn}
 use Rattle.world_model.specs.WorkerSteps.{AtLane, DeliverStep, ExpandStep, SendStep, SettleStep}
@@ -299,6 +299,28 @@ books_are_left step it next other = split (next_cases step it next)
     split : Cases it (Accepts step it.before it.after) → it.after.book ≡ it.before.book
     split (inl out) = ap book_of out.1.1
     split (inr done) = accepts_book step it.before it.after done.1 other
+
+pub book_steps_alone : BookStepsAloneUseIt
+book_steps_alone (Expand i) used = absurd used
+book_steps_alone (Settle i) used = absurd used
+book_steps_alone (Send i j) used = absurd used
+book_steps_alone (Deliver i j) used = absurd used
+book_steps_alone (Draw i) used = (i, inl refl)
+book_steps_alone (Announce i) used = (i, inr (inl refl))
+book_steps_alone (Grant i) used = (i, inr (inr (inl refl)))
+book_steps_alone (Rest i) used = (i, inr (inr (inr (inl refl))))
+book_steps_alone (Halt i cause) used = (i, inr (inr (inr (inr (cause, refl)))))
+
+pub two_ends : LanesHaveTwoEnds
+two_ends (Expand i) from to used = absurd used
+two_ends (Settle i) from to used = absurd used
+two_ends (Send i j) from to used = inl (ap (λ (k : ℕ). Send k j) (sym used.0) ∙ ap (λ (k : ℕ). Send from k) (sym used.1))
+two_ends (Deliver i j) from to used = inr (ap (λ (k : ℕ). Deliver k j) (sym used.1) ∙ ap (λ (k : ℕ). Deliver to k) (sym used.0))
+two_ends (Draw i) from to used = absurd used
+two_ends (Announce i) from to used = absurd used
+two_ends (Grant i) from to used = absurd used
+two_ends (Rest i) from to used = absurd used
+two_ends (Halt i cause) from to used = absurd used
 
 -- floors
 pub floor_kept : RestsKeepTheFloor

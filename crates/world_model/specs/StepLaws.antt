@@ -1,11 +1,12 @@
 -- The laws of steps: that each has one answer and leaves one world, and what it leaves alone.
-use Rattle.std.specs.Prelude.{◌≡◌, ◌≢◌, ◌↔◌, ⊤, ℕ, ◌<◌, ◌+◌, true, List, [], ◌∷◌, ◌++◌, All, Contains, Option, Some, None, slice_get}
+use Rattle.std.specs.Prelude.{◌≡◌, ◌≢◌, ◌↔◌, ◌⊎◌, ⊤, ℕ, ◌<◌, ◌+◌, true, List, [], ◌∷◌, ◌++◌, All, Contains, Option, Some, None, slice_get}
 use Rattle.memory.specs.declared.OutOfMemory.{OutOfMemory}
 use Rattle.board.specs.declared.moves.Move.{Move}
 use Rattle.board.specs.Weights.{WeightsModel}
 use Rattle.board.specs.Moves.{Moves}
 use Rattle.board.specs.Boards.{IsBoard, BoardModel}
 use Rattle.world_model.specs.declared.parts.Known.{Known}
+use Rattle.world_model.specs.declared.steps.HaltCause.{HaltCause}
 use Rattle.world_model.specs.declared.steps.Refusal.{Refusal}
 use Rattle.world_model.specs.declared.steps.Refusal.TheVariants.{NoRoom, Memory}
 use Rattle.world_model.specs.declared.steps.Step.{Step}
@@ -71,6 +72,10 @@ TakesMemory (Halt i cause) = ⊥
 -- the answer depends neither on memory, nor on which of several boards of least cost plus sum is expanded
 abbrev pub IsFirm : Option Refusal → Type 0
 IsFirm answer = (answer ≢ Some NoRoom) × ((refused : OutOfMemory) → answer ≢ Some (Memory refused))
+
+-- every other answer is one
+abbrev pub OtherAnswersAreFirm : Type 0
+OtherAnswersAreFirm = (answer : Option Refusal) → answer ≢ Some NoRoom → ((refused : OutOfMemory) → answer ≢ Some (Memory refused)) → IsFirm answer
 
 -- two such answers to one step agree: it is accepted, or refused for one cause
 abbrev pub AnswersAgree : Type 0
@@ -169,3 +174,14 @@ abbrev pub RunsAreJoined : Type 0
 RunsAreJoined =
     (w w' : WorldState) (made more : List (Step × Option Refusal))
     → IsRun w (made ++ more) w' ↔ ((middle : WorldState) × IsRun w made middle × IsRun middle more w')
+
+-- no step but the five on the book may change it
+abbrev pub BookStepsAloneUseIt : Type 0
+BookStepsAloneUseIt =
+    (step : Step)
+    → UsesBook step
+    → (i : ℕ) × ((step ≡ Draw i) ⊎ (step ≡ Announce i) ⊎ (step ≡ Grant i) ⊎ (step ≡ Rest i) ⊎ ((cause : HaltCause) × (step ≡ Halt i cause)))
+
+-- a lane may be changed by its sender, which sends, and by its receiver, which takes in
+abbrev pub LanesHaveTwoEnds : Type 0
+LanesHaveTwoEnds = (step : Step) (from to : ℕ) → UsesLane step from to → (step ≡ Send from to) ⊎ (step ≡ Deliver to from)

@@ -47,8 +47,8 @@ workers-preserved g c =
       ins = search rules;
       tickets = omega (arith, inv.tickets, c.means_for-means.ensures.left);
       seed = λ low. c.means_for-means.ensures.later (omega (arith, low));
-      later_outs = λ k low. c.take_row-to_each.ensures.later k (omega (arith, low)) ∙ inv.later_outs k (omega (arith, low));
-      later_ins = λ k low. c.take_row-from_each.ensures.later k (omega (arith, low)) ∙ inv.later_ins k (omega (arith, low));
+      later_outs = λ k low. c.take_row-to_each.ensures.others k (λ same. omega (arith, low, same)) ∙ inv.later_outs k (omega (arith, low));
+      later_ins = λ k low. c.take_row-from_each.ensures.others k (λ same. omega (arith, low, same)) ∙ inv.later_ins k (omega (arith, low));
       faces = λ i it h. each_more (IsFace p owners (rings_of_outs rings.outs.items) (rings_of_ins rings.ins.items)) parts part inv.faces (rw len is) i it (rw e at h);
     }
 
