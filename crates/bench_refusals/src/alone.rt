@@ -13,7 +13,7 @@ use std::sync::Wait;
 use std::thread::Threads;
 
 // The names of all calls.
-static CALLS: [&str; 28] = [
+static CALLS: [&str; 29] = [
     "partition",
     "table",
     "fold",
@@ -36,6 +36,7 @@ static CALLS: [&str; 28] = [
     "check-groups",
     "open",
     "closed",
+    "lists",
     "meet",
     "settle",
     "expand",

@@ -9,15 +9,16 @@ use crate::problems::{Costs, Problem, certificate_of, job_of, problem_at};
 use board::{Board, Shape, Weights};
 use certificate_check::{Refusal, check};
 use checked_runs::{CheckedFault, solve_checked};
-use hda_run::Free;
+use hda_run::{Gate, Kind};
 use lower_bound::Bound;
 use outcomes::Outcome;
 use owners::Zobrist;
 use std::alloc::Global;
 use std::io::{self, ErrorKind, Print};
 use std::sync::Wait;
+use std::sync::atomic::{AtomicBool, Ordering};
 use std::thread::Threads;
-use test_worlds::bound_of;
+use test_worlds::{Counter, bound_of};
 
 // Another goal of the same class.
 const OTHER_GOAL: [u8; 9] = [1, 2, 0, 3, 4, 5, 6, 7, 8];
@@ -29,7 +30,7 @@ const GROUPS: [&[u8]; 2] = [&[1, 2, 3, 4], &[5, 6, 7, 8]];
 const OTHER_GROUPS: [&[u8]; 2] = [&[1, 2, 3, 4], &[5, 6, 7]];
 
 // How many workers solve it.
-const WORKERS: [usize; 3] = [1, 2, 16];
+const WORKERS: [usize; 4] = [1, 2, 16, 17];
 
 // Whose tables the checker has.
 #[derive(Clone, Copy)]
@@ -146,14 +147,53 @@ fn print_answers<R: Threads + Wait + Print + AllocGlobal + Sync>(
     let verdict = verdict_on_plan(rt.alloc(), problem, bound, tables);
     println!(rt; "# {}: {verdict:?}", judge.words())?;
     for workers in WORKERS {
-        let answer = checked_answer(rt, rt.alloc(), problem, bound, workers, tables);
-        print_answer(rt, workers, answer)?;
+        let steps = Steps::new();
+        let answer = checked_answer(rt, rt.alloc(), problem, bound, workers, tables, &steps);
+        print_answer(rt, workers, answer, &steps)?;
     }
     rt.println("")
 }
 
-fn print_answer(rt: &impl Print, workers: usize, answer: Answer) -> io::Result<()> {
-    println!(rt; "workers {workers}: {answer:?}")
+// Prints what is answered. What one worker expands is the same each time; of several, others than
+// the first have to take steps.
+fn print_answer(rt: &impl Print, workers: usize, answer: Answer, steps: &Steps) -> io::Result<()> {
+    if let Answer::Fault(fault) = answer {
+        return println!(rt; "workers {workers}: {} {fault}", fault.code());
+    }
+    let expanded = steps.expanded.expanded();
+    if workers == 1 {
+        return println!(rt; "workers 1: {answer:?}, {expanded} expansions");
+    }
+    if steps.others.load(Ordering::SeqCst) {
+        return println!(rt; "workers {workers}: {answer:?}");
+    }
+    println!(rt; "workers {workers}: {answer:?}, by the first worker alone")
+}
+
+// Counts the boards that are expanded, and notes whether another worker than the first takes a step.
+#[derive(Drop)]
+struct Steps {
+    expanded: Counter,
+    others: AtomicBool,
+}
+
+impl Steps {
+    // Of a run in which no step was taken.
+    fn new() -> Self {
+        Steps {
+            expanded: Counter::new(),
+            others: AtomicBool::new(false),
+        }
+    }
+}
+
+impl Gate for Steps {
+    fn pass(&self, worker: usize, kind: Kind) {
+        self.expanded.pass(worker, kind);
+        if worker > 0 {
+            self.others.store(true, Ordering::SeqCst);
+        }
+    }
 }
 
 // The tables of a judge, or None where memory was refused.
@@ -217,6 +257,7 @@ fn checked_answer<R: Threads + Wait + Sync>(
     bound: &Bound,
     workers: usize,
     tables: &Bound,
+    steps: &Steps,
 ) -> Answer
     requires potentials { ArePotentials problem.now.weights problem.now.goal bound.now }
 {
@@ -224,7 +265,7 @@ fn checked_answer<R: Threads + Wait + Sync>(
     let Some(job) = job_of(problem, bound) else {
         return Answer::Invalid;
     };
-    match solve_checked(rt, alloc, job, workers, &spread, &Free, tables) {
+    match solve_checked(rt, alloc, job, workers, &spread, steps, tables) {
         Ok(Outcome::Optimal { cost, .. }) => Answer::Cost(cost),
         Ok(Outcome::Unsolvable { .. }) => Answer::NoPlan,
         Ok(Outcome::Bounded { bound, .. }) => Answer::Bound(bound),

@@ -1,6 +1,7 @@
-//! Gates that count expansions, or slow a worker down.
+//! Gates that count expansions or bounds that are shown, or slow a worker down.
 
-use hda_run::{Gate, Kind};
+use hda_run::{Gate, Kind, World};
+use owners::Spread;
 use std::hint::spin_loop;
 use std::sync::atomic::{AtomicU64, Ordering};
 
@@ -28,6 +29,48 @@ impl Gate for Counter {
     fn pass(&self, _worker: usize, kind: Kind) {
         if kind == Kind::Expand {
             let _ = self.expanded.fetch_add(1, Ordering::SeqCst);
+        }
+    }
+}
+
+/// Counts how often a bound is shown, or that there is none, and keeps the last bound.
+#[derive(Drop)]
+pub struct Shown {
+    times: AtomicU64,
+    last: AtomicU64,
+}
+
+impl Shown {
+    /// Of a run that has shown nothing.
+    pub fn new() -> Self {
+        Shown {
+            times: AtomicU64::new(0),
+            last: AtomicU64::new(0),
+        }
+    }
+
+    /// How often a bound was shown, or that there is none.
+    pub fn times(&self) -> u64 {
+        self.times.load(Ordering::SeqCst)
+    }
+
+    /// The last bound that was shown, or 0.
+    pub fn last(&self) -> u64 {
+        self.last.load(Ordering::SeqCst)
+    }
+}
+
+impl Gate for Shown {
+    fn pass(&self, _worker: usize, _kind: Kind) {}
+
+    fn wants_bound(&self) -> bool {
+        true
+    }
+
+    fn show_bound<S: Spread>(&self, _world: &World<'_, S>, bound: Option<u32>) {
+        let _ = self.times.fetch_add(1, Ordering::SeqCst);
+        if let Some(bound) = bound {
+            self.last.store(u64::from(bound), Ordering::SeqCst);
         }
     }
 }

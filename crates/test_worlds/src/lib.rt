@@ -2,7 +2,7 @@
 //!
 //! - steps of one of two workers, where a step whose requirements are not met is left out;
 //! - tables for groups of tiles;
-//! - gates that count expansions, or slow a worker down;
+//! - gates that count expansions or bounds that are shown, or slow a worker down;
 //! - what workers in threads answer.
 //!
 //! A plan with rows, or a bound with rows, counts as found where the checker accepts its
@@ -18,7 +18,7 @@ mod steps;
 mod tables;
 
 pub use far_board::{FAR_GROUPS, FAR_START, far_problem};
-pub use gates::{Counter, Delay};
+pub use gates::{Counter, Delay, Shown};
 pub use problems::{Answer, Division, Job, Problem, Team};
 pub use rows::ByRow;
 pub use solving::{answer_of_threads, answer_with_rows, answer_without_rows};

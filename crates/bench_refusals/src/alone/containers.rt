@@ -4,6 +4,7 @@ use super::{Answer, refused_if, whole_if};
 use board::Move;
 use closed_table::Closed;
 use open_buckets::Open;
+use search_lists::SearchLists;
 use std::alloc::Global;
 
 /// Makes the call of this name, or answers None where it is none of these.
@@ -11,6 +12,7 @@ pub fn call(alloc: Global, name: &str) -> Option<Answer> {
     match name {
         "open" => Some(reserve_open(alloc)),
         "closed" => Some(reserve_closed(alloc)),
+        "lists" => Some(reserve_lists(alloc)),
         _ => None,
     }
 }
@@ -83,5 +85,17 @@ fn reserve_boards(alloc: Global, closed: &mut Closed) -> Answer {
     match closed.reserve(alloc, 3000) {
         Ok(()) => whole_if(has_one_board(closed), "other boards"),
         Err(_) => refused_if(has_one_board(closed), "other boards"),
+    }
+}
+
+// Makes places for a board, and for one that waits, in new lists.
+fn reserve_lists(alloc: Global) -> Answer {
+    let mut lists = SearchLists::new(alloc);
+    if lists.reserve_boards(alloc, 1).is_err() {
+        return Answer::Refused;
+    }
+    match lists.reserve_places(alloc, 2, 1) {
+        Ok(()) => whole_if(lists.has_places(2, 1), "no place"),
+        Err(_) => refused_if(!lists.has_places(2, 1), "a place from nowhere"),
     }
 }

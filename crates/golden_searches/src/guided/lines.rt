@@ -5,12 +5,12 @@ use crate::problems::{Costs, weights_of};
 use batch_runs::{Setup, SpreadKind};
 use board::{Board, Shape};
 use byte_streams::{ByteSink, ByteSource};
-use hda_run::Free;
 use setup_runs::run_batch;
 use std::alloc::Global;
 use std::io::{self, ErrorKind, Print};
 use std::sync::Wait;
 use std::thread::Threads;
+use test_worlds::Counter;
 
 /// A line, and what its batch has in common.
 #[derive(Clone, Copy)]
@@ -199,13 +199,25 @@ pub fn print_report<R: Print + AllocGlobal + Threads + Wait + Sync>(
 ) -> io::Result<()> {
     asked.print(rt)?;
     match report_of(rt, asked) {
-        Some(report) => print_text(rt, report.as_slice()),
+        Some((report, expanded)) => print_made(rt, asked, report.as_slice(), expanded),
         None => Err(ErrorKind::InvalidData.into()),
     }
 }
 
-// The report of a line, or None where memory was refused.
-fn report_of<R: AllocGlobal + Threads + Wait + Sync>(rt: &R, asked: &Asked) -> Option<Vec<u8>> {
+// Prints a report, and before it how many expansions the gate saw, where one worker makes as many
+// each time.
+fn print_made(rt: &impl Print, asked: &Asked, report: &[u8], expanded: u64) -> io::Result<()> {
+    if asked.workers == 1 {
+        println!(rt; "# {expanded} expansions")?;
+    }
+    print_text(rt, report)
+}
+
+// The report of a line, and how many expansions the gate saw; or None where memory was refused.
+fn report_of<R: AllocGlobal + Threads + Wait + Sync>(
+    rt: &R,
+    asked: &Asked,
+) -> Option<(Vec<u8>, u64)> {
     let setup = setup_of(rt, rt.alloc(), asked)?;
     report_by(rt, &setup, asked.line)
 }
@@ -214,11 +226,12 @@ fn report_by<R: AllocGlobal + Threads + Wait + Sync>(
     rt: &R,
     setup: &Setup,
     line: &str,
-) -> Option<Vec<u8>> {
+) -> Option<(Vec<u8>, u64)> {
     let mut source = ByteSource::new(line.as_bytes());
     let mut sink = ByteSink::new(Vec::new(rt.alloc()));
-    run_batch(rt, rt.alloc(), &mut source, &mut sink, setup, &Free).ok()?;
-    Some(sink.into_inner())
+    let counter = Counter::new();
+    run_batch(rt, rt.alloc(), &mut source, &mut sink, setup, &counter).ok()?;
+    Some((sink.into_inner(), counter.expanded()))
 }
 
 /// Prints bytes that are UTF-8.

@@ -8,6 +8,7 @@ use certificate_check::Refusal;
 use database_build::TableFault;
 use lower_bound::PatternFault;
 use memory::OutOfMemory;
+use option_texts::GroupsFault;
 use pattern_index::{GroupFault, PartitionFault};
 use std::fmt::Display;
 use std::io;
@@ -16,7 +17,7 @@ use std::io;
 pub fn print(rt: &impl Print, refused: OutOfMemory) -> io::Result<()> {
     print_boards(rt)?;
     print_lines(rt)?;
-    print_groups(rt)?;
+    print_groups(rt, refused)?;
     print_certificates(rt, refused)?;
     print_refusals(rt)?;
     print_runs(rt, refused)?;
@@ -64,7 +65,7 @@ fn print_lines(rt: &impl Print) -> io::Result<()> {
     Ok(())
 }
 
-fn print_groups(rt: &impl Print) -> io::Result<()> {
+fn print_groups(rt: &impl Print, refused: OutOfMemory) -> io::Result<()> {
     rt.println("\n# Faults of groups, partitions and tables")?;
     for fault in [
         PatternFault::Empty,
@@ -90,7 +91,16 @@ fn print_groups(rt: &impl Print) -> io::Result<()> {
         print_fault(rt, fault.code(), fault)?;
     }
     let fault = TableFault::WrongCount;
-    print_fault(rt, fault.code(), fault)
+    print_fault(rt, fault.code(), fault)?;
+    rt.println("\n# Faults of the text of --groups")?;
+    for fault in [
+        GroupsFault::NoGroup(GroupFault::Empty),
+        GroupsFault::NoPartition(PartitionFault::SharedTile),
+        GroupsFault::Memory(refused),
+    ] {
+        print_fault(rt, fault.code(), fault)?;
+    }
+    Ok(())
 }
 
 fn print_certificates(rt: &impl Print, refused: OutOfMemory) -> io::Result<()> {

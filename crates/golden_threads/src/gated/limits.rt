@@ -17,8 +17,9 @@ const SMALL_LIMIT: u64 = 200;
 // The most expansions that are granted to a worker and that it may leave.
 const LEFT_BY_EACH: u64 = 256;
 
-/// Prints whether a limit bounds the runs of one worker, and of four, by both spreads; and whether
-/// two workers expand a board under a limit that one grant uses up.
+/// Prints whether a limit bounds the runs of one worker, of four and of sixteen, by both spreads;
+/// and whether two workers expand a board under a limit that one grant uses up. Workers whose answer
+/// is dropped, and found once more by one of them alone, expand more than the limit.
 pub fn print_runs<R: Threads + Wait + Print + AllocGlobal + Sync>(rt: &R) -> io::Result<()> {
     print_large(rt)?;
     print_small(rt)
@@ -29,6 +30,7 @@ fn print_large<R: Threads + Wait + Print + AllocGlobal + Sync>(rt: &R) -> io::Re
     for division in &Division::HASHED {
         print_run(rt, 1, *division, LIMIT, LIMIT)?;
         print_run(rt, 4, *division, LIMIT, LIMIT - 4 * LEFT_BY_EACH)?;
+        print_run(rt, 16, *division, LIMIT, 1)?;
     }
     rt.println("")
 }

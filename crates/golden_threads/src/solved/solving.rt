@@ -11,8 +11,16 @@ use outcomes::{Ending, Outcome};
 use owners::{ByBlank, Spread, Zobrist};
 use std::alloc::Global;
 use std::io::{self, ErrorKind, Print};
-use test_worlds::{ByRow, Division, Problem, bound_of};
+use test_worlds::{ByRow, Division, Problem, Shown, bound_of};
 use world_ends::WithoutRows;
+
+// What `solve_one` answers, with the bounds that it shows, and what `read_one` answers.
+#[derive(Drop)]
+struct Answers {
+    outcome: Outcome,
+    ending: Ending,
+    shown: Shown,
+}
 
 /// Prints what one worker answers: with rows by `solve_one`, and without by `read_one`.
 pub fn print_answers(rt: &(impl Print + AllocGlobal), case: &Case) -> io::Result<()> {
@@ -22,17 +30,29 @@ pub fn print_answers(rt: &(impl Print + AllocGlobal), case: &Case) -> io::Result
     print_both(rt, case, &answers(rt.alloc(), case))
 }
 
-fn print_both(rt: &impl Print, case: &Case, answers: &Option<(Outcome, Ending)>) -> io::Result<()> {
-    let Some((outcome, ending)) = answers else {
+fn print_both(rt: &impl Print, case: &Case, answers: &Option<Answers>) -> io::Result<()> {
+    let Some(answers) = answers else {
         return Err(ErrorKind::OutOfMemory.into());
     };
-    print_outcome(rt, case, outcome)?;
-    print_ending(rt, case, ending)?;
+    print_outcome(rt, case, &answers.outcome)?;
+    print_shown(rt, &answers.shown)?;
+    print_ending(rt, case, &answers.ending)?;
     rt.println("")
 }
 
+fn print_shown(rt: &impl Print, shown: &Shown) -> io::Result<()> {
+    let times = shown.times();
+    if times == 0 {
+        return Ok(());
+    }
+    println!(rt;
+        "shown after each of {times} expansions: the last bound is {}",
+        shown.last()
+    )
+}
+
 // What both answer, or None where the case has no job, or memory was refused.
-fn answers(alloc: Global, case: &Case) -> Option<(Outcome, Ending)> {
+fn answers(alloc: Global, case: &Case) -> Option<Answers> {
     let problem = problem_of(case)?;
     let bound = bound_of(alloc, &problem.goal, &problem.weights, case.groups)?;
     answers_with(alloc, &problem, &bound, case.division)
@@ -44,12 +64,17 @@ fn answers_with(
     problem: &Problem,
     bound: &Bound,
     division: Division,
-) -> Option<(Outcome, Ending)>
+) -> Option<Answers>
     requires { ArePotentials problem.now.weights problem.now.goal bound.now }
 {
-    let outcome = solved(alloc, problem, bound, division)?;
+    let shown = Shown::new();
+    let outcome = solved(alloc, problem, bound, division, &shown)?;
     let ending = ended(alloc, problem, bound, division)?;
-    Some((outcome, ending))
+    Some(Answers {
+        outcome,
+        ending,
+        shown,
+    })
 }
 
 // The job of a case without its tables, or None where the case has no board.
@@ -77,19 +102,30 @@ fn weights_of(costs: Costs, shape: Shape) -> Weights
 }
 
 // What `solve_one` answers.
-fn solved(alloc: Global, problem: &Problem, bound: &Bound, division: Division) -> Option<Outcome>
+fn solved(
+    alloc: Global,
+    problem: &Problem,
+    bound: &Bound,
+    division: Division,
+    shown: &Shown,
+) -> Option<Outcome>
     requires { ArePotentials problem.now.weights problem.now.goal bound.now }
 {
     let job = job_of(problem, bound)?;
     match division {
-        Division::ByBlank => solved_by(alloc, job, &ByBlank),
-        Division::ByHash => solved_by(alloc, job, &Zobrist::new(problem.goal.shape())),
-        Division::ByRow => solved_by(alloc, job, &ByRow),
+        Division::ByBlank => solved_by(alloc, job, &ByBlank, shown),
+        Division::ByHash => solved_by(alloc, job, &Zobrist::new(problem.goal.shape()), shown),
+        Division::ByRow => solved_by(alloc, job, &ByRow, shown),
     }
 }
 
-fn solved_by<'a, S: Spread>(alloc: Global, job: Job<'a>, spread: &'a S) -> Option<Outcome> {
-    solve_one(alloc, job, spread, &Free).ok()
+fn solved_by<'a, S: Spread>(
+    alloc: Global,
+    job: Job<'a>,
+    spread: &'a S,
+    shown: &Shown,
+) -> Option<Outcome> {
+    solve_one(alloc, job, spread, shown).ok()
 }
 
 // What `read_one` answers without rows.
