@@ -1,6 +1,6 @@
 -- What a parse of arguments says of a command, its matches, and what they ask for.
-use Rattle.std.proofs.Common.{◌≡◌, ℕ, List, Option, None, Some, sym, ap, subst, ◌∙◌, codes, true, refl, Bool, false, ap₂, [], Result, Ok, Err, IfOk, IfErr, inl, option_map, ◌≢◌, ◌==◌, ◌⊎◌, ◌∷◌, inr, map, length}
-use Rattle.std.specs.Prelude.{◌||◌, IfSome, IsTrue, ◌↔◌, is_some, not, unwrap_or, Box}
+use Rattle.std.proofs.Common.{◌≡◌, ℕ, List, Option, None, Some, sym, ap, subst, ◌∙◌, codes, true, refl, Bool, false, ap₂, [], Result, Ok, Err, IfOk, IfErr, inl, option_map, ◌≢◌, ◌==◌, ◌⊎◌, ◌∷◌, inr, map, length, get_or, arith, slice_get, option_and_then}
+use Rattle.std.specs.Prelude.{◌||◌, IfSome, IsTrue, ◌↔◌, is_some, not, unwrap_or, Box, find}
 use Rattle.std.specs.Result.{IsErrAnd}
 use Rattle.std.proofs.lemmas.Bool.{true≢false}
 use Rattle.std.specs.Str.{bytes_eq}
@@ -9,7 +9,7 @@ use Rattle.std.specs.Borrow.{Bor}
 use Rattle.std.specs.Str.Parse.{digits_value, without_leading_plus}
 use Rattle.std.specs.Box.{box_value}
 use Rattle.std.proofs.lemmas.Result.{IfOk-weaker, IfErr-weaker}
-use Rattle.clap.specs.Words.{Text, Row, first_of, is_simple, is_simple_and_free, App, Rule, AddsArg, AddsSubcommand, app_of, rule_of, with_rule, with_subcommand, FailsBy, HasKind, HasMatchesOf, fault_of, kind_of, subcommand_of, subcommand_rows_of, ReadsOne, one_text, first_value, rows_of, subcommand_name_of, Kinds}
+use Rattle.clap.specs.Words.{Text, Row, first_of, is_simple, is_simple_and_free, App, Rule, AddsArg, AddsSubcommand, app_of, rule_of, with_rule, with_subcommand, FailsBy, HasKind, HasMatchesOf, fault_of, kind_of, read_as as value_read, subcommand_of, subcommand_rows_of, ReadsOne, one_text, first_value, rows_of, subcommand_name_of, Kinds}
 use Rattle.clap.proofs.OnLiterals.{clap_on_literals}
 use Rattle.clap.specs.declared.builder.arg.Arg.{Arg}
 use Rattle.clap.specs.declared.builder.command.Command.{Command}
@@ -24,9 +24,13 @@ use Rattle.clap.specs.declared.parser.matches.ArgMatches.TheViews.{out-ArgMatche
 use Rattle.clap.specs.declared.parser.matches.SubCommand.{SubCommand}
 use Rattle.clap.specs.declared.builder.value_parser.ValueParser.{ValueParser}
 use Rattle.command_line.specs.Commands.{Choices, program_app, parsed_rule, AreChoices, IsProgram, IsReadAs}
-use Rattle.command_line.specs.Requests.{HasNumber, HasShape, IsGoalSaid, IsGoalFault, AreCostsSaid, IsCostsFault, AreGroupsSaid, IsGroupsFault, AreOptions, OptionsFail, RunFails, AsksRun, AsksText, TextFails, WordsAsk, WordsFail}
+use Rattle.command_line.specs.Requests.{HasNumber, HasCount, IsLeftOut, HasShape, spread_text, IsGoalSaid, IsGoalFault, AreCostsSaid, IsCostsFault, AreGroupsSaid, IsGroupsFault, AreOptions, OptionsFail, RunFails, AsksRun, AsksText, TextFails, WordsAsk, WordsFail}
 use Rattle.command_line.specs.declared.faults.NoRequest.TheVariants.{Usage, Goal, Costs, Groups, NoListing, Memory}
 use Rattle.command_line.specs.declared.requests.Request.{Request}
+use Rattle.command_line.specs.declared.requests.Request.TheVariants.{Solve, Certify, Check, Draw, Upgrade, Replay, Boards, Help, Version}
+use Rattle.batch_runs.specs.declared.setup.SpreadKind.{SpreadKind}
+use Rattle.batch_runs.specs.declared.setup.SpreadKind.TheVariants.{Zobrist, Blank}
+use Rattle.drawings.specs.declared.drawing.Style.TheVariants as style
 use Rattle.command_line.specs.declared.faults.NoRequest.{NoRequest}
 use Rattle.board.specs.Shapes.{ShapeModel}
 use Rattle.board.specs.Boards.{BoardModel}
@@ -42,7 +46,7 @@ use Rattle.option_texts.proofs.TextLemmas.{one_goal, no_goal_fault}
 use Rattle.option_texts.proofs.CostLemmas.{one_rule, no_costs_fault}
 use Rattle.option_texts.proofs.LawLemmas.{no_groups_fault}
 use Rattle.command_line.specs.declared.requests.Options.{Options}
-use Rattle.command_line.specs.Laws.{IsWant}
+use Rattle.command_line.specs.Laws.{IsWant, SearchesAreSaid, OptionsAreDetermined, ListingsAreDetermined, StylesAreDetermined, CertIsSaid, TextsAreOfFaults, UsageIsOfFaults}
 use Rattle.command_line.specs.Requests.{IsChoice, SaysListing, IsListFault, ListingFails}
 use Rattle.command_line.specs.declared.requests.Listing.{Listing}
 use Rattle.command_line.specs.declared.faults.ListFault.TheVariants.{NotAlone, TooManyCells}
@@ -285,3 +289,105 @@ goal_before_groups rows fault later (grid, shape, first) (grid', shape', goal, s
 pub costs_before_groups : (rows : List Row) (fault : WeightsFault) (later : GroupsFault) → OptionsFail rows (Costs fault) → OptionsFail rows (Groups later) → ⊥
 costs_before_groups rows fault later (grid, shape, goal, said, first) (grid', shape', goal', said', rule, costs, fails) =
     costs_no_fault grid (first_of (codes "cost") rows) rule fault (subst (λ (g : ShapeModel). AreCostsSaid g (first_of (codes "cost") rows) rule) (one_shape rows grid grid' shape shape') costs) first
+
+-- ---- what options say of a search, a list of boards and a drawing
+
+pub search_said : SearchesAreSaid
+search_said rows o are = (are.limit, are.workers.count, are.workers.few, are.spread)
+
+abbrev some_letter : Option Text → ℕ
+some_letter None = 0
+some_letter (Some text) = get_or text 0 0
+
+one_spread : (spread spread' : SpreadKind) → ◌≡◌ {A = Option Text} (Some (spread_text spread)) (Some (spread_text spread')) → spread' ≡ spread
+one_spread Zobrist Zobrist same = refl
+one_spread Zobrist Blank same = let z = ap some_letter same in absurd (omega arith)
+one_spread Blank Zobrist same = let z = ap some_letter same in absurd (omega arith)
+one_spread Blank Blank same = refl
+
+pub one_search : OptionsAreDetermined
+one_search rows o o' are are' =
+    let sides : o'.goal.grid ≡ o.goal.grid = one_shape rows o.goal.grid o'.goal.grid are.shape are'.shape in
+    let goal = subst (λ (g : ShapeModel). IsGoalSaid g (first_of (codes "goal") rows) o'.goal) sides are'.goal in
+    let costs = subst (λ (g : ShapeModel). AreCostsSaid g (first_of (codes "cost") rows) o'.costs) sides are'.costs in (
+      one_goal_said o.goal.grid (first_of (codes "goal") rows) o.goal o'.goal are.goal goal,
+      one_rule_said o.goal.grid (first_of (codes "cost") rows) o.costs o'.costs are.costs costs,
+      one_number rows (codes "limit") o.limit o'.limit are.limit are'.limit,
+      one_number rows (codes "workers") o.workers o'.workers are.workers.count are'.workers.count,
+      one_spread o.spread o'.spread (sym are.spread ∙ are'.spread),
+    )
+
+-- an option that is left out says no number
+no_text : (r : Row) (text : Text) → slice_get r.values 0 ≡ None → option_map (value_read r.reading) (slice_get r.values 0) ≡ Some text → ⊥
+no_text r text out given =
+    let none : ◌≡◌ {A = Option Text} None (Some text) = sym (ap (option_map (value_read r.reading)) out) ∙ given in
+    absurd (cc)
+
+out_or_number : (found : Option Row) (text : Text) → option_and_then (λ r. slice_get r.values 0) found ≡ None → option_and_then (λ r. option_map (value_read r.reading) (slice_get r.values 0)) found ≡ Some text → ⊥
+out_or_number None text out given = absurd (cc)
+out_or_number (Some r) text out given = no_text r text out given
+
+out_no_number : (rows : List Row) (id : Text) (n : ℕ) → IsLeftOut rows id → HasNumber rows id n → ⊥
+out_no_number rows id n out has = out_or_number (find (λ r. bytes_eq r.id id) rows) has.text out has.given
+
+one_count : (rows : List Row) (n m : ℕ) → HasCount rows n → HasCount rows m → m ≡ n
+one_count rows n m (inl first) (inl second) = second.1 ∙ sym first.1
+one_count rows n m (inl first) (inr second) = absurd (out_no_number rows (codes "count") m first.0 second)
+one_count rows n m (inr first) (inl second) = absurd (out_no_number rows (codes "count") n second.0 first)
+one_count rows n m (inr first) (inr second) = one_number rows (codes "count") n m first second
+
+one_choice : (rows : List Row) (choice choice' : Choice) → IsChoice rows choice → IsChoice rows choice' → choice' ≡ choice
+one_choice rows (Drawn count seed) (Drawn count' seed') first second =
+    let counts : count' ≡ count = one_count rows count count' first.2 second.2 in
+    let seeds : seed' ≡ seed = one_number rows (codes "seed") seed seed' first.3 second.3 in
+    λ i. Drawn (counts i) (seeds i)
+one_choice rows (Drawn count seed) (Walked moves' count' seed') first second = absurd (out_no_number rows (codes "moves") moves' first.1 second.1)
+one_choice rows (Drawn count seed) Whole first second = absurd (first.0 second.0)
+one_choice rows (Walked moves count seed) (Drawn count' seed') first second = absurd (out_no_number rows (codes "moves") moves second.1 first.1)
+one_choice rows (Walked moves count seed) (Walked moves' count' seed') first second =
+    let steps : moves' ≡ moves = one_number rows (codes "moves") moves moves' first.1 second.1 in
+    let counts : count' ≡ count = one_count rows count count' first.2 second.2 in
+    let seeds : seed' ≡ seed = one_number rows (codes "seed") seed seed' first.3 second.3 in
+    λ i. Walked (steps i) (counts i) (seeds i)
+one_choice rows (Walked moves count seed) Whole first second = absurd (first.0 second.0)
+one_choice rows Whole (Drawn count' seed') first second = absurd (second.0 first.0)
+one_choice rows Whole (Walked moves' count' seed') first second = absurd (second.0 first.0)
+one_choice rows Whole Whole first second = refl
+
+pub one_listing : ListingsAreDetermined
+one_listing rows l l' says says' =
+    let sides : l'.goal.grid ≡ l.goal.grid = one_shape rows l.goal.grid l'.goal.grid says.shape says'.shape in
+    let said = subst (λ (g : ShapeModel). IsGoalSaid g (first_of (codes "goal") rows) l'.goal) sides says'.goal in
+    let goals : l'.goal ≡ l.goal = one_goal_said l.goal.grid (first_of (codes "goal") rows) l.goal l'.goal says.goal said in
+    let choices : l'.choice ≡ l.choice = one_choice rows l.choice l'.choice says.choice says'.choice in
+    λ i. record { goal = goals i; choice = choices i }
+
+pub one_style : StylesAreDetermined
+one_style rows (style.Text width) (style.Text width') first second = ap (λ (n : ℕ). style.Text n) (one_number rows (codes "width") width width' first.0 second.0)
+one_style rows (style.Text width) (style.Svg seconds) first second = absurd (first.1 second.1)
+one_style rows (style.Svg seconds) (style.Text width) first second = absurd (second.1 first.1)
+one_style rows (style.Svg seconds) (style.Svg seconds') first second = ap (λ (n : ℕ). style.Svg n) (one_number rows (codes "seconds") seconds seconds' first.0 second.0)
+
+-- ---- what asks for a certificate, and for texts
+
+pub cert_said : CertIsSaid
+cert_said name rows o = ((λ asks. asks.2), (λ asks. asks.2))
+
+pub text_of_fault : TextsAreOfFaults
+text_of_fault faults (Solve o) asks = absurd asks
+text_of_fault faults (Certify o) asks = absurd asks
+text_of_fault faults Check asks = absurd asks
+text_of_fault faults (Draw look) asks = absurd asks
+text_of_fault faults Upgrade asks = absurd asks
+text_of_fault faults (Replay o) asks = absurd asks
+text_of_fault faults (Boards l) asks = absurd asks
+text_of_fault faults (Help text) asks = (text, inl (refl, asks))
+text_of_fault faults (Version text) asks = (text, inr (refl, asks))
+
+pub usage_of_fault : UsageIsOfFaults
+usage_of_fault faults (Usage text) fails = inr (text, refl, fails)
+usage_of_fault faults (Goal fault) fails = absurd fails
+usage_of_fault faults (Costs fault) fails = absurd fails
+usage_of_fault faults (Groups fault) fails = absurd fails
+usage_of_fault faults (NoListing fault) fails = absurd fails
+usage_of_fault faults Memory fails = inl refl

@@ -1,19 +1,25 @@
 -- The laws of what options say. Each is the contract of a function that does nothing.
-use Rattle.std.specs.Prelude.{◌≡◌, ◌↔◌, ⊤, List, Option, IsTrue, false, codes}
-use Rattle.clap.specs.Words.{Text, Row}
+use Rattle.std.specs.Prelude.{◌≡◌, ◌≢◌, ◌≤◌, ◌⊎◌, ◌↔◌, ⊤, List, Option, Some, IsTrue, String, false, codes}
+use Rattle.std.specs.declared.alloc.Global.{Global}
+use Rattle.clap.specs.Words.{Text, Row, Kinds, IsAmong, first_of}
+use Rattle.clap.specs.declared.error.kind.ErrorKind.{ErrorKind}
+use Rattle.clap.specs.declared.error.kind.ErrorKind.TheVariants.{DisplayHelp, DisplayVersion}
 use Rattle.board.specs.Shapes.{ShapeModel}
 use Rattle.board.specs.Boards.{BoardModel}
 use Rattle.board.specs.Weights.{WeightsModel}
 use Rattle.board.specs.declared.faults.TilesFault.{TilesFault}
 use Rattle.board.specs.declared.faults.WeightsFault.{WeightsFault}
+use Rattle.drawings.specs.declared.drawing.Style.{Style}
 use Rattle.pattern_index.specs.Partitions.{IsPartition}
 use Rattle.option_texts.specs.Laws.{IsMemoryRefusal}
 use Rattle.option_texts.specs.declared.faults.GroupsFault.{GroupsFault}
 use Rattle.command_line.specs.declared.requests.Options.{Options}
 use Rattle.command_line.specs.declared.requests.Listing.{Listing}
+use Rattle.command_line.specs.declared.requests.Request.{Request}
+use Rattle.command_line.specs.declared.requests.Request.TheVariants.{Solve, Certify, Help, Version}
 use Rattle.command_line.specs.declared.faults.NoRequest.{NoRequest}
 use Rattle.command_line.specs.declared.faults.NoRequest.TheVariants.{Usage, Goal, Costs, Groups, NoListing, Memory}
-use Rattle.command_line.specs.Requests.{HasShape, IsGoalSaid, IsGoalFault, AreCostsSaid, IsCostsFault, IsSet, AreOptions, AreDefaults, OptionsFail, SaysListing, ListingFails}
+use Rattle.command_line.specs.Requests.{HasNumber, HasShape, IsGoalSaid, IsGoalFault, AreCostsSaid, IsCostsFault, IsSet, IsStyle, AreOptions, AreDefaults, OptionsFail, SaysListing, ListingFails, AsksRun, AsksText, TextFails, spread_text}
 
 -- the rows and columns say one shape
 abbrev pub ShapesAreDetermined : Type 0
@@ -70,3 +76,45 @@ FlagsAreSaid =
 -- none of this is done where there are no arguments
 abbrev pub FlagsAreOff : Type 0
 FlagsAreOff = (o : Options) → AreDefaults o → (o.fold ≡ false) × (o.progress ≡ false) × (o.stats ≡ false)
+
+-- the limit, the workers and their spread are those that the options of these names say
+abbrev pub SearchesAreSaid : Type 0
+SearchesAreSaid =
+    (rows : List Row) (o : Options)
+    → AreOptions rows o
+    → HasNumber rows (codes "limit") o.limit × HasNumber rows (codes "workers") o.workers × (o.workers ≤ 16) × (first_of (codes "spread") rows ≡ Some (spread_text o.spread))
+
+-- options say one puzzle, and one way to search it
+abbrev pub OptionsAreDetermined : Type 0
+OptionsAreDetermined =
+    (rows : List Row) (o o' : Options)
+    → AreOptions rows o
+    → AreOptions rows o'
+    → (o'.goal ≡ o.goal) × (o'.costs ≡ o.costs) × (o'.limit ≡ o.limit) × (o'.workers ≡ o.workers) × (o'.spread ≡ o.spread)
+
+-- options say one list of boards
+abbrev pub ListingsAreDetermined : Type 0
+ListingsAreDetermined = (rows : List Row) (l l' : Listing) → SaysListing rows l → SaysListing rows l' → l' ≡ l
+
+-- and one style of drawing
+abbrev pub StylesAreDetermined : Type 0
+StylesAreDetermined = (rows : List Row) (look look' : Style) → IsStyle rows look → IsStyle rows look' → look' ≡ look
+
+-- `solve` writes a certificate exactly where that option is there
+abbrev pub CertIsSaid : Type 0
+CertIsSaid =
+    (name : Text) (rows : List Row) (o : Options) → (AsksRun (Some (name, rows)) (Certify o) → IsSet rows (codes "cert")) × (AsksRun (Some (name, rows)) (Solve o) → ¬ IsSet rows (codes "cert"))
+
+-- faults ask for a text of help or of the version, where that is among them, and for nothing else
+abbrev pub TextsAreOfFaults : Type 0
+TextsAreOfFaults =
+    (faults : Kinds) (request : Request)
+    → AsksText faults request
+    → (text : String Global) × (((request ≡ Help text) × IsAmong DisplayHelp faults) ⊎ ((request ≡ Version text) × IsAmong DisplayVersion faults))
+
+-- where faults ask for no text, usage is shown for one of them that is neither, or memory was refused
+abbrev pub UsageIsOfFaults : Type 0
+UsageIsOfFaults =
+    (faults : Kinds) (refusal : NoRequest)
+    → TextFails faults refusal
+    → (refusal ≡ Memory) ⊎ ((text : String Global) × (refusal ≡ Usage text) × ((kind : ErrorKind) × IsAmong kind faults × (kind ≢ DisplayHelp) × (kind ≢ DisplayVersion)))

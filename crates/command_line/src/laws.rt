@@ -7,23 +7,29 @@ ghost use Rattle.command_line.specs.Laws.{OptionsHaveNoFault, ListingsHaveNoFaul
 ghost use Rattle.command_line.specs.Laws.{GoalsAreJudgedBeforeCosts};
 ghost use Rattle.command_line.specs.Laws.{GoalsAreJudgedBeforeGroups, CostsAreJudgedBeforeGroups};
 ghost use Rattle.command_line.specs.Laws.{FlagsAreSaid, FlagsAreOff};
+ghost use Rattle.command_line.specs.Laws.{SearchesAreSaid, OptionsAreDetermined};
+ghost use Rattle.command_line.specs.Laws.{ListingsAreDetermined, StylesAreDetermined};
+ghost use Rattle.command_line.specs.Laws.{CertIsSaid, TextsAreOfFaults, UsageIsOfFaults};
 
 /// One shape is said, one goal and one rule of costs; and where these are said, their texts have no
-/// fault.
-#[tactic(auto, using(crate::proofs::ParseLemmas::one_shape, crate::proofs::ParseLemmas::one_goal_said, crate::proofs::ParseLemmas::goal_no_fault, crate::proofs::ParseLemmas::one_rule_said, crate::proofs::ParseLemmas::costs_no_fault))]
+/// fault. One style of drawing is said.
+#[tactic(auto, using(crate::proofs::ParseLemmas::one_shape, crate::proofs::ParseLemmas::one_goal_said, crate::proofs::ParseLemmas::goal_no_fault, crate::proofs::ParseLemmas::one_rule_said, crate::proofs::ParseLemmas::costs_no_fault, crate::proofs::ParseLemmas::one_style))]
 pub fn options_say_one_thing()
     ensures shapes { ShapesAreDetermined }
     ensures goals { SaidGoalsAreDetermined }
     ensures no_goal_fault { SaidGoalsHaveNoFault }
     ensures costs { SaidCostsAreDetermined }
     ensures no_costs_fault { SaidCostsHaveNoFault }
+    ensures styles { StylesAreDetermined }
 {}
 
-/// Options that are said have no fault, except that memory may be refused. The same holds for
-/// boards that are said.
+/// Options that are said have no fault, except that memory may be refused, and they say one puzzle
+/// and one way to search it. The same holds for boards that are said: they are one list.
 pub fn options_have_no_fault()
     ensures options { OptionsHaveNoFault }
     ensures listings { ListingsHaveNoFault }
+    ensures one_search { OptionsAreDetermined }
+    ensures one_list { ListingsAreDetermined }
 {}
 
 /// The goal is judged before the costs, and these before the groups: no options have faults of two
@@ -34,9 +40,14 @@ pub fn options_are_judged_in_order()
     ensures costs_before_groups { CostsAreJudgedBeforeGroups }
 {}
 
-/// Tables are folded, and progress and figures printed, exactly where the option is there. By
-/// default none of this is done.
+/// Tables are folded, progress and figures printed, and a certificate written, exactly where the
+/// option is there. By default none of this is done. The options of these names say the limit, the
+/// workers and their spread. Help, the version and usage are shown only for faults that ask so.
 pub fn flags_are_said()
     ensures options { FlagsAreSaid }
     ensures defaults { FlagsAreOff }
+    ensures search { SearchesAreSaid }
+    ensures cert { CertIsSaid }
+    ensures texts { TextsAreOfFaults }
+    ensures usage { UsageIsOfFaults }
 {}

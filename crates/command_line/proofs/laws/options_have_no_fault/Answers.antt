@@ -1,4 +1,4 @@
-use Rattle.command_line.proofs.ParseLemmas.{options_no_fault, listing_no_fault}
+use Rattle.command_line.proofs.ParseLemmas.{options_no_fault, listing_no_fault, one_search, one_listing}
 use Rattle.command_line.proofs.laws.options_have_no_fault.Goals as goal
 
 pub returns-clause-options : goal.returns-clause-options
@@ -6,3 +6,9 @@ returns-clause-options c = options_no_fault
 
 pub returns-clause-listings : goal.returns-clause-listings
 returns-clause-listings c = listing_no_fault
+
+pub returns-clause-one_search : goal.returns-clause-one_search
+returns-clause-one_search c = one_search
+
+pub returns-clause-one_list : goal.returns-clause-one_list
+returns-clause-one_list c = one_listing
