@@ -3,12 +3,17 @@ use Rattle.std.proofs.Common.{◌≡◌, ◌≢◌, ℕ, zero, suc, ◌<◌, Lis
 use Rattle.std.specs.List.{All, AllPairs, AllByRecursion}
 use Rattle.std.proofs.lemmas.Bool.{true≢false, ne_eqb, eqb-true}
 use Rattle.std.proofs.lemmas.Option.{slice_get_within, get_or_from_slice_get}
-use Rattle.std.specs.Prelude.{Bool, true, false, nat_lt, ⊤, ◌⊎◌}
+use Rattle.std.specs.Prelude.{Bool, true, false, nat_lt, ⊤, ◌⊎◌, unwrap_or, option_and_then}
 use Rattle.serde_json.specs.Data.{Data, null, boolean, number, string, array, object}
+use Rattle.serde_json.specs.Find.{as_number, as_u64}
 use Rattle.serde_json.specs.Read.{read}
 use Rattle.serde_json.specs.Written.{compact_text}
 use Rattle.board.specs.Shapes.{ShapeModel, cell_count}
 use Rattle.board.specs.Boards.{BoardModel, IsBoard}
+use Rattle.board.specs.Letters.{letter_of, move_of_letter}
+use Rattle.board.specs.Plans.{Leads, NothingBelow, IsLeast}
+use Rattle.board.specs.declared.moves.Move.{Move}
+use Rattle.board.specs.declared.moves.Move.TheVariants.{U, L, R, D}
 use Rattle.board.specs.declared.faults.TilesFault.{TilesFault}
 use Rattle.board.specs.declared.faults.TilesFault.TheVariants.{WrongCount, TileOutOfRange, TileRepeated}
 use Rattle.outcomes.specs.Outcomes.{Task, best_of}
@@ -22,7 +27,7 @@ use Rattle.batch_lines.specs.declared.words.EntryFault.TheVariants.{NoText, NoBo
 use Rattle.batch_lines.specs.declared.lines.LineKind.{LineKind}
 use Rattle.batch_lines.specs.declared.lines.LineKind.TheVariants.{PassedOver, Within, TooLong}
 use Rattle.batch_lines.specs.declared.lines.TheConstants.{LINE_LIMIT}
-use Rattle.reports.specs.Reports.{outcome_data, refused_data, report_text}
+use Rattle.reports.specs.Reports.{outcome_data, refused_data, report_text, letters_of}
 use Rattle.reports.specs.Readings.{IsSmall, HasSmallNumbers, IsReport, HasStatus}
 use Rattle.reports.specs.Readings.IsReport.{of_outcome, of_line}
 use Rattle.reports.proofs.ReadLemmas.{report_read}
@@ -33,6 +38,7 @@ use Rattle.batch_runs.specs.Batches.Answer.{passed_over, refused, answered}
 use Rattle.batch_runs.specs.Batches.AnswersEntry.{by_fault, by_outcome, by_want}
 use Rattle.batch_runs.specs.declared.batch.Summary.{Summary}
 use Rattle.batch_runs.specs.Headline.{IsTrueOfBoard, TellsTheTruth}
+use Rattle.batch_runs.specs.Laws.{OptimalReportsAreLeast, UnsolvableReportsHaveNoPlan, BoundedReportsAreBelow, ReportsAreNamed}
 
 -- ---- a line names one board, and then it has no fault
 
@@ -278,6 +284,50 @@ outcome_true task id (Bounded bound best cause) answers = record {
   unsolvable = λ e. let z = ap first_letter e in absurd (omega arith);
   bounded = λ e. (bound, best_of best, cause, refl, refl, refl, answers.0.0, answers.0.3, answers.0.4);
 }
+
+-- ---- what a true report says of plans
+
+abbrev letters_in : Option Data → List ℕ
+letters_in o = text_in (data_or o)
+
+abbrev number_in : Option Data → ℕ
+number_in o = unwrap_or (option_and_then as_u64 (option_and_then as_number o)) 0
+
+abbrev moves_of : List ℕ → List Move
+moves_of [] = []
+moves_of (letter ∷ letters) = unwrap_or (move_of_letter letter) U ∷ moves_of letters
+
+own_move : (m : Move) → unwrap_or (move_of_letter (letter_of m)) U ≡ m
+own_move U = refl
+own_move L = refl
+own_move R = refl
+own_move D = refl
+
+own_moves : (plan : List Move) → moves_of (letters_of plan) ≡ plan
+own_moves [] = refl
+own_moves (m ∷ plan) = (λ i. own_move m i ∷ own_moves plan i)
+
+pub reported_least : OptimalReportsAreLeast
+reported_least task id name cost plan true_of =
+    let says = true_of.optimal refl in
+    let costs : cost ≡ says.0 = ap number_in says.2 in
+    let plans : plan.items ≡ says.1 = sym (own_moves plan.items) ∙ ap (λ (o : Option Data). moves_of (letters_in o)) says.3 ∙ own_moves says.1 in
+    let leads : Leads task.rule task.start plan.items task.goal says.0 = subst (λ (moves : List Move). Leads task.rule task.start moves task.goal says.0) (sym plans) says.4 in
+    subst (λ (c : ℕ). Leads task.rule task.start plan.items task.goal c × IsLeast task.rule task.start task.goal c) (sym costs) (leads, says.5)
+
+pub reported_none : UnsolvableReportsHaveNoPlan
+reported_none task id name why true_of = (true_of.unsolvable refl).0
+
+pub reported_bound : BoundedReportsAreBelow
+reported_bound task id name bound best cause true_of =
+    let says = true_of.bounded refl in
+    let bounds : bound ≡ says.0 = ap number_in says.3 in
+    subst (NothingBelow task.rule task.start task.goal) (sym bounds) says.6
+
+pub reported_name : ReportsAreNamed
+reported_name task id name (Optimal cost plan) true_of = ap letters_in true_of.named
+reported_name task id name (Unsolvable why) true_of = ap letters_in true_of.named
+reported_name task id name (Bounded bound best cause) true_of = ap letters_in true_of.named
 
 module _ (rules : Rules) (n : ℕ) (id : List ℕ) (b : BoardModel) where
   named_true : IsTruthful rules → (line : List ℕ) (d : Data) → Names rules.grid line id b → Tells rules n line d → IsTrueOfBoard (rules.task b) id d ⊎ SaysRefused d (codes "V3") n × rules.allows b None

@@ -3,7 +3,9 @@
 ghost use Rattle.batch_runs.specs.Headline.{AnswersTellTheTruth, BeginningsAreOfLines};
 ghost use Rattle.batch_runs.specs.Headline.{BatchOutputsTellTheTruth, BeginningsTellTheTruth};
 ghost use Rattle.batch_runs.specs.Laws.{BatchLinesAreLostToFailures, OutputsAreAnswers};
-ghost use Rattle.batch_runs.specs.Laws.{FailedWritesAreTold};
+ghost use Rattle.batch_runs.specs.Laws.{FailedWritesAreTold, ReportsAreNamed};
+ghost use Rattle.batch_runs.specs.Laws.{OptimalReportsAreLeast, UnsolvableReportsHaveNoPlan};
+ghost use Rattle.batch_runs.specs.Laws.{BoundedReportsAreBelow};
 
 use crate::answering::Ruled;
 
@@ -49,4 +51,14 @@ pub fn runs_are_told<A: Ruled>(asked: &A)
 #[tactic(auto, using(crate::proofs::BatchLemmas::lost))]
 pub fn lines_are_lost_to_failures()
     ensures { BatchLinesAreLostToFailures }
+{}
+
+/// A report of an ending that is true of a board says the truth of its plans: one is least, there is
+/// none, or none costs less than the bound. It has the name of the board's line.
+#[tactic(auto, using(crate::proofs::TruthLemmas::reported_least, crate::proofs::TruthLemmas::reported_none, crate::proofs::TruthLemmas::reported_bound, crate::proofs::TruthLemmas::reported_name))]
+pub fn reports_tell_of_plans()
+    ensures optimal { OptimalReportsAreLeast }
+    ensures unsolvable { UnsolvableReportsHaveNoPlan }
+    ensures bounded { BoundedReportsAreBelow }
+    ensures named { ReportsAreNamed }
 {}
