@@ -1,12 +1,13 @@
 -- What was written for a line, or of a certificate, is true.
-use Rattle.std.proofs.Common.{ℕ, ◌≡◌, List, Option, None, Some, Vec, inl, inr, Ok, Err, refl, sym, subst, arith, ap, true, ◌<◌, ◌+◌, [], ◌∷◌, ◌++◌, length, ◌∙◌, length-append, ◌≢◌, suc, ◌^◌, Bool, false, cond, Result, append-nil, get_or, not, slice_get}
+use Rattle.std.proofs.Common.{ℕ, ◌≡◌, List, Option, None, Some, Vec, inl, inr, Ok, Err, refl, sym, subst, arith, ap, true, ◌<◌, ◌+◌, [], ◌∷◌, ◌++◌, length, ◌∙◌, length-append, ◌≢◌, suc, ◌^◌, Bool, false, cond, Result, append-nil, get_or, not, slice_get, option_and_then}
 use Rattle.std.specs.declared.alloc.Global.{Global}
 use Rattle.std.proofs.KnownBytes.{Appends-nil, Keeps-refl}
 use Rattle.std.proofs.lemmas.List.Elements.{recursion_from_All}
-use Rattle.std.specs.Prelude.{◌↔◌, IsSome, ◌≤◌, IfSome, codes, nat_lt}
+use Rattle.std.specs.Prelude.{◌↔◌, IsSome, ◌≤◌, IfSome, codes, nat_lt, unwrap_or}
 use Rattle.std.specs.List.{AllByRecursion}
 use Rattle.std.proofs.lemmas.Bool.{ne_eqb}
-use Rattle.serde_json.specs.Data.{Data, null, boolean, number, string, array, object}
+use Rattle.serde_json.specs.Data.{Data, null, boolean, number, unsigned, string, array, object}
+use Rattle.serde_json.specs.Find.{as_str, as_number, as_u64}
 use Rattle.serde_json.specs.Read.{read}
 use Rattle.serde_json.specs.Written.{compact_text}
 use Rattle.board.specs.declared.moves.Move.{Move}
@@ -30,7 +31,7 @@ use Rattle.batch_lines.specs.declared.lines.LineKind.{LineKind}
 use Rattle.batch_lines.specs.declared.lines.LineKind.TheVariants.{PassedOver, TooLong, Within}
 use Rattle.batch_lines.specs.Words.{entry_code}
 use Rattle.batch_lines.specs.Lines.{line_kind_of, without_return, lines_of, onto_first, is_passed_over}
-use Rattle.reports.specs.Reports.{outcome_data, refused_data, refused_certificate_data, report_text}
+use Rattle.reports.specs.Reports.{outcome_data, refused_data, accepted_data, accepted_bound_data, refused_certificate_data, report_text}
 use Rattle.reports.specs.Readings.{HasSmallNumbers, HasStatus, IsReport, IsSmall, SaysNumber}
 use Rattle.reports.specs.Readings.IsReport.{of_outcome, of_line, of_cost, of_bound, of_certificate}
 use Rattle.reports.proofs.ReadLemmas.{report_read}
@@ -62,7 +63,7 @@ use Rattle.certificate_runs.specs.Upgrading.{EndsUpgrade, Upgrades}
 use Rattle.certificate_runs.specs.Checking.{claim_data, IsJudgement, IsVerdictOutput, Checks}
 use Rattle.certificate_runs.specs.Headline.{BoundsLackRows, CertifiesTruly, ClaimsTruly, AnswersFirst, WritesAnswer, IsTrueAnswer, IsCertificateRefusedBy, SaysOf, IsTrueVerdict, WritesVerdict, IsTrueCheck, WritesUpgrade, IsTrueUpgrade}
 use Rattle.certificate_runs.specs.Headline.AnswersFirst.{by_none, by_certificate, by_report}
-use Rattle.certificate_runs.specs.Laws.{CertificatesAreOfOutcomes, WantsAreOfRules, GroupsAreWantedForRows, SaidBoundsLackRows, OutcomesWithRowsAreCertified, ReportedBoundsLackRows, BoundsAreCertified, ClaimsAreOfEndings, LeastPlansAreCertified, StatusesTellClaims, OtherFaultsLeaveTheSink, OtherFaultsWriteNoVerdict, VerdictsAreOnWhatWasRead, WantsAreForVerdicts}
+use Rattle.certificate_runs.specs.Laws.{CertificatesAreOfOutcomes, WantsAreOfRules, GroupsAreWantedForRows, SaidBoundsLackRows, OutcomesWithRowsAreCertified, ReportedBoundsLackRows, BoundsAreCertified, ClaimsAreOfEndings, LeastPlansAreCertified, StatusesTellClaims, OtherFaultsLeaveTheSink, OtherFaultsWriteNoVerdict, VerdictsAreOnWhatWasRead, WantsAreForVerdicts, AcceptedCostsAreLeast, AcceptedBoundsAreBelow, RefusedInputsHaveTheFault}
 use Rattle.outcomes.specs.declared.outcome.Outcome.TheVariants as outcome
 use Rattle.certificate_runs.specs.declared.faults.CertifyFault.TheVariants as certify
 use Rattle.certificate_runs.specs.declared.faults.CheckFault.TheVariants as check
@@ -174,6 +175,7 @@ claims_truly task cost None leads below = below
 certifies_truly : (split : PartitionModel) (task : Task) (c : CertificateModel) → IsCertificateOf split task c → CertifiesTruly split task c (spelling c)
 certifies_truly split task c of = record {
   read = spelled_read (spelling c) c (of.certificate, refl);
+  version = of.version;
   groups = of.groups;
   start = of.start;
   goal = of.goal;
@@ -490,3 +492,43 @@ groups_wanted rules line bytes wanting lacks = lacks.1
 
 pub bounds_lack : (rules : ProofRules) → SaidBoundsLackRows rules
 bounds_lack rules line output d lacks reply bounded = lacks d reply bounded
+
+-- ---- what a true verdict says
+
+abbrev said_number : Option Data → ℕ
+said_number o = unwrap_or (option_and_then as_u64 (option_and_then as_number o)) 0
+
+abbrev said_text : Option Data → List ℕ
+said_text o = unwrap_or (option_and_then as_str o) []
+
+-- what is said of a cost is of a plan, since there is no bound
+cost_said : (c : CertificateModel) (cost : ℕ) (claimed : Option (List Move)) → SaysOf c claimed (accepted_data cost) → (plan : List Move) × (claimed ≡ Some plan) × Leads c.costs c.start plan c.goal cost × IsLeast c.costs c.start c.goal cost
+cost_said c cost (Some plan) says =
+    let same : cost ≡ c.cost = ap said_number says.0 in
+    let both = subst (λ (n : ℕ). Leads c.costs c.start plan c.goal n × IsLeast c.costs c.start c.goal n) (sym same) (says.1, says.2) in
+    (plan, refl, both.0, both.1)
+cost_said c cost None says = let none : ◌≡◌ {A = Option Data} None (Some (number (unsigned c.cost))) = says.0 in absurd (cc)
+
+bound_said : (c : CertificateModel) (bound : ℕ) (claimed : Option (List Move)) → SaysOf c claimed (accepted_bound_data bound) → (claimed ≡ None) × NothingBelow c.costs c.start c.goal bound
+bound_said c bound (Some plan) says = let none : ◌≡◌ {A = Option Data} None (Some (number (unsigned c.cost))) = says.0 in absurd (cc)
+bound_said c bound None says =
+    let same : bound ≡ c.cost = ap said_number says.0 in
+    (refl, subst (NothingBelow c.costs c.start c.goal) (sym same) says.1)
+
+pub accepted_least : AcceptedCostsAreLeast
+accepted_least input cost verdict =
+    let claim = verdict.accepted refl in
+    let said = cost_said claim.0 cost claim.0.plan claim.2 in
+    (claim.0, said.0, claim.1, said.1, said.2, said.3)
+
+pub accepted_below : AcceptedBoundsAreBelow
+accepted_below input bound verdict =
+    let claim = verdict.accepted refl in
+    let said = bound_said claim.0 bound claim.0.plan claim.2 in
+    (claim.0, claim.1, said.0, said.1)
+
+pub refused_by : RefusedInputsHaveTheFault
+refused_by input code verdict =
+    let said = verdict.refused refl in
+    let same : code ≡ said.0 = ap said_text said.1 in
+    subst (IsCertificateRefusedBy input) (sym same) said.2

@@ -15,6 +15,7 @@ use Rattle.outcomes.specs.declared.outcome.Outcome.TheVariants.{Bounded}
 use Rattle.reports.specs.Readings.{Reads, SaysText, SaysNumber, HasStatus}
 use Rattle.reports.specs.Reports.{refused_certificate_data, report_text}
 use Rattle.certificate.specs.Certificates.{CertificateModel, upgraded}
+use Rattle.certificate.specs.declared.certificate.Version.TheVariants.{Two}
 use Rattle.certificate.specs.Spellings.{spelling}
 use Rattle.certificate.specs.Readings.{certificate, IsFirstFormatFault}
 use Rattle.certificate.specs.Faults.{format_code}
@@ -40,10 +41,11 @@ abbrev pub ClaimsTruly : Task → ℕ → Option (List Move) → Type 0
 ClaimsTruly task cost (Some plan) = Leads task.rule task.start plan task.goal cost × IsLeast task.rule task.start task.goal cost
 ClaimsTruly task bound None = NothingBelow task.rule task.start task.goal bound
 
--- The bytes, read again, are this certificate, which names these groups, and claims something true of this task. Its rows prove it with the
--- sums of the groups' tables, so whoever builds these accepts it.
+-- The bytes, read again, are this certificate of version 2, which names these groups, and claims something true of this task. Its rows prove
+-- it with the sums of the groups' tables, so whoever builds these accepts it.
 pub record CertifiesTruly (split : PartitionModel) (task : Task) (c : CertificateModel) (bytes : List ℕ) : Type 0 where
   pub read : certificate bytes ≡ Ok (c, [])
+  pub version : c.version ≡ Two
   pub groups : c.groups ≡ split
   pub start : c.start ≡ task.start
   pub goal : c.goal ≡ task.goal

@@ -16,6 +16,7 @@ use Rattle.outcomes.specs.Outcomes.{StandsAlone}
 use Rattle.memory.specs.declared.OutOfMemory.{OutOfMemory}
 use Rattle.serde_json.specs.Data.{Data}
 use Rattle.reports.specs.Readings.{SaysNumber, HasStatus}
+use Rattle.reports.specs.Reports.{accepted_data, accepted_bound_data, refused_certificate_data}
 use Rattle.batch_lines.specs.Words.{IsEntry}
 use Rattle.batch_lines.specs.declared.lines.Line.{Line}
 use Rattle.byte_streams.specs.Streams.{SourceState, SinkState, Change}
@@ -23,9 +24,11 @@ use Rattle.batch_runs.specs.Batches.{AnswersLine}
 use Rattle.batch_runs.specs.Batches.Answer.{answered}
 use Rattle.batch_runs.specs.Meanings.{questions, Names, IsReply}
 use Rattle.pattern_index.specs.Partitions.{PartitionModel}
-use Rattle.certificate_runs.specs.Headline.{AnswersFirst, BoundsLackRows}
+use Rattle.certificate_runs.specs.Headline.{AnswersFirst, BoundsLackRows, IsTrueVerdict, IsCertificateRefusedBy}
 use Rattle.board.specs.Boards.{BoardModel}
+use Rattle.board.specs.Plans.{Leads, NothingBelow, IsLeast}
 use Rattle.certificate.specs.Certificates.{CertificateModel}
+use Rattle.certificate.specs.Readings.{certificate}
 use Rattle.certificate.specs.declared.faults.FormatFault.{FormatFault}
 use Rattle.certificate.specs.declared.faults.ReadFault.{ReadFault}
 use Rattle.certificate.specs.declared.faults.ReadFault.TheVariants.{Format}
@@ -124,3 +127,21 @@ SaidBoundsLackRows rules =
     → IsReply output 0 d
     → HasStatus d (codes "bounded")
     → (id : List ℕ) × (b : BoardModel) × (bound : ℕ) × (refused : OutOfMemory) × Names rules.grid line id b × SaysNumber d (codes "bound") bound × rules.allows b (Some (outcome.Bounded bound None (Memory (Refused refused)) None))
+
+-- where it is true of an input that this cost is accepted, the input is a certificate, whose plan leads to the goal at this cost, and no plan costs less
+abbrev pub AcceptedCostsAreLeast : Type 0
+AcceptedCostsAreLeast =
+    (input : List ℕ) (cost : ℕ)
+    → IsTrueVerdict input (accepted_data cost)
+    → (c : CertificateModel) × (plan : List Move) × (certificate input ≡ Ok (c, [])) × (c.plan ≡ Some plan) × Leads c.costs c.start plan c.goal cost × IsLeast c.costs c.start c.goal cost
+
+-- where it is true that this bound is accepted, the input is a certificate without a plan, and no plan costs less
+abbrev pub AcceptedBoundsAreBelow : Type 0
+AcceptedBoundsAreBelow =
+    (input : List ℕ) (bound : ℕ)
+    → IsTrueVerdict input (accepted_bound_data bound)
+    → (c : CertificateModel) × (certificate input ≡ Ok (c, [])) × (c.plan ≡ None) × NothingBelow c.costs c.start c.goal bound
+
+-- and where it is true that the input is refused with this code, it is refused by it
+abbrev pub RefusedInputsHaveTheFault : Type 0
+RefusedInputsHaveTheFault = (input code : List ℕ) → IsTrueVerdict input (refused_certificate_data code) → IsCertificateRefusedBy input code

@@ -8,6 +8,8 @@ ghost use Rattle.certificate_runs.specs.Laws.{ReportedBoundsLackRows, OutcomesWi
 ghost use Rattle.certificate_runs.specs.Laws.{CertificatesAreOfOutcomes, WantsAreOfRules};
 ghost use Rattle.certificate_runs.specs.Laws.{GroupsAreWantedForRows, SaidBoundsLackRows};
 ghost use Rattle.certificate_runs.specs.Laws.{VerdictsAreOnWhatWasRead, WantsAreForVerdicts};
+ghost use Rattle.certificate_runs.specs.Laws.{AcceptedCostsAreLeast, AcceptedBoundsAreBelow};
+ghost use Rattle.certificate_runs.specs.Laws.{RefusedInputsHaveTheFault};
 
 use crate::certifying::ProofRuled;
 
@@ -68,4 +70,13 @@ pub fn replies_are_of_rules<A: ProofRuled>(asked: &A)
 pub fn verdicts_are_on_what_was_read()
     ensures verdicts { VerdictsAreOnWhatWasRead }
     ensures wants { WantsAreForVerdicts }
+{}
+
+/// A verdict that is true of an input says of a certificate that its plan is least, or that no plan
+/// costs less than its bound; or it says the fault by which the input is refused.
+#[tactic(auto, using(crate::proofs::HeadlineLemmas::accepted_least, crate::proofs::HeadlineLemmas::accepted_below, crate::proofs::HeadlineLemmas::refused_by))]
+pub fn verdicts_tell_of_plans()
+    ensures costs { AcceptedCostsAreLeast }
+    ensures bounds { AcceptedBoundsAreBelow }
+    ensures refused { RefusedInputsHaveTheFault }
 {}
