@@ -1,6 +1,7 @@
 -- What the program leaves in an empty output, and what of its message in the error stream.
-use Rattle.std.proofs.Common.{◌≡◌, ◌∙◌, Bool, false, List, [], ◌∷◌, Option, None, Some, inl, inr, sym, ap, subst, map, arith, codes, ℕ, ◌≢◌, Result, Ok, Err, refl, ◌⊎◌, ◌<◌, append-nil, string_bytes, ◌++◌}
+use Rattle.std.proofs.Common.{◌≡◌, ◌∙◌, Bool, true, false, List, [], ◌∷◌, Option, None, Some, inl, inr, sym, ap, subst, map, arith, codes, ℕ, ◌≢◌, Result, Ok, Err, refl, ◌⊎◌, ◌<◌, append-nil, string_bytes, ◌++◌}
 use Rattle.std.specs.Io.KnownBytes.{Appends}
+use Rattle.std.proofs.lemmas.Bool.{true≢false}
 use Rattle.batch_runs.proofs.BatchLemmas.{run_true, outputs_true}
 use Rattle.setup_runs.specs.Solving.{rules_of, certifying_rules_of}
 use Rattle.batch_cli.specs.Laws.{MessagesAreBegun, OutputsTellTheTruth, SolvedOutputsTellTheTruth, CertificatesAnswerTheFirst, AcceptedInputsAreTrue, DefaultSetupsAreKorfs}
@@ -14,6 +15,7 @@ use Rattle.board.specs.Boards.{BoardModel}
 use Rattle.board.specs.declared.moves.Move.{Move}
 use Rattle.board.specs.Plans.{Leads, IsLeast}
 use Rattle.pattern_index.specs.Partitions.{PartitionModel}
+use Rattle.lower_bound.specs.Tables.{BoundModel}
 use Rattle.table_sets.specs.Built.{AreTrueTables, AreBuilt}
 use Rattle.byte_streams.specs.Streams.{SinkState, Change, SourceState, from_to}
 use Rattle.byte_streams.specs.Sink.{PutsNone, Flushes, Puts, Writes}
@@ -75,10 +77,19 @@ outputs source sink status input known empty well (setup, is, begun, written) =
     let held = outputs_true (rules_of setup) source sink status input known empty (written well) in
     (setup, is, held.0, held.1, held.2, held.3)
 
+-- the tables that are built for groups are of these groups, and all folded or all whole, as asked
+abbrev AreAsAsked : Bool → PartitionModel → BoundModel → Type 0
+AreAsAsked fold split tables = (tables.split ≡ split) × (fold ≡ true → tables.lookups ≡ []) × (fold ≡ false → tables.folds ≡ [])
+
+as_asked : (fold : Bool) (split : PartitionModel) (rule : WeightsModel) (goal : BoardModel) (tables : BoundModel) → AreTablesFor fold split rule goal tables → AreAsAsked fold split tables
+as_asked true split rule goal tables are = (are.groups, (λ yes. are.folded), (λ never. absurd (true≢false never)))
+as_asked false split rule goal tables are = (are.groups, (λ never. absurd (true≢false (sym never))), (λ yes. are.whole))
+
 pub asked_outputs : SolvedOutputsTellTheTruth
 asked_outputs o source sink status input known empty well (setup, is, begun, written) =
     let held = outputs_true (rules_of setup) source sink status input known empty (written well) in
-    (setup, is.goal, is.rule, is.limit, is.workers, held.0, held.1, held.2, held.3)
+    let tables = as_asked o.fold o.groups setup.rule setup.goal setup.tables is.tables in
+    (setup, is.goal, is.rule, is.limit, is.workers, is.spread, tables.0, tables.1, tables.2, held.0, held.1, held.2, held.3)
 
 appended : (after : Option (List ℕ)) (held sent : List ℕ) → Appends (Some held) after sent → after ≡ Some (held ++ sent)
 appended None held sent put = absurd put
@@ -94,7 +105,8 @@ asked_certificates o source sink status input known empty well (setup, is, writt
     let answer = written well in
     let first : AreFirst (Some input) answer.lines = rw known at answer.first in
     let put : Appends (Some []) sink.after.contents answer.output = rw empty at answer.put in
-    (setup, is.goal, is.rule, answer.lines, first.0, answer.output, first.1, appended sink.after.contents [] answer.output put, answer.answer)
+    let tables = as_asked o.fold o.groups setup.rule setup.goal setup.tables is.tables in
+    (setup, is.goal, is.rule, is.limit, is.workers, is.spread, tables.0, tables.1, tables.2, answer.lines, first.0, answer.output, first.1, appended sink.after.contents [] answer.output put, answer.answer)
 
 pub accepted_inputs : AcceptedInputsAreTrue
 accepted_inputs source sink input known truth =

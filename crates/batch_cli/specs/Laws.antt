@@ -1,5 +1,5 @@
 -- The laws of the definitions. Each is the contract of a function that does nothing.
-use Rattle.std.specs.Prelude.{ℕ, Bool, ◌≡◌, ◌≤◌, ◌<◌, false, List, [], ◌∷◌, ◌++◌, Ok, Some, map}
+use Rattle.std.specs.Prelude.{ℕ, Bool, ◌≡◌, ◌≤◌, ◌<◌, true, false, List, [], ◌∷◌, ◌++◌, Ok, Some, map}
 use Rattle.byte_streams.specs.Streams.{SourceState, SinkState, Change}
 use Rattle.board.specs.declared.moves.Move.{Move}
 use Rattle.board.specs.Plans.{Leads}
@@ -45,7 +45,8 @@ OutputsTellTheTruth =
     → IsTrue status source sink
     → (setup : SetupModel) × IsDefaultSetup setup × (output : List ℕ) × (sink.after.contents ≡ Some output) × TellsTheTruth (rules_of setup) (lines_of input) output × (status ≡ 0 → AreAllDecided output)
 
--- so it is of what `solve` leaves for options, with a setup of their goal, costs, limit and workers
+-- so it is of what `solve` leaves for options, with a setup of their goal, costs, limit, workers, spread and groups, whose tables are folded
+-- where the options say so
 abbrev pub SolvedOutputsTellTheTruth : Type 0
 SolvedOutputsTellTheTruth =
     (o : Options) (source : Change SourceState) (sink : Change SinkState) (status : ℕ) (input : List ℕ)
@@ -53,10 +54,11 @@ SolvedOutputsTellTheTruth =
     → sink.before.contents ≡ Some []
     → status < 2
     → IsTrueOf (Solve o) status source sink
-    → (setup : SetupModel) × (setup.goal ≡ o.goal) × (setup.rule ≡ o.costs) × (setup.limit ≡ o.limit) × (setup.workers ≡ o.workers)
+    → (setup : SetupModel) × (setup.goal ≡ o.goal) × (setup.rule ≡ o.costs) × (setup.limit ≡ o.limit) × (setup.workers ≡ o.workers) × (setup.spread ≡ o.spread)
+    × (setup.tables.split ≡ o.groups) × (o.fold ≡ true → setup.tables.lookups ≡ []) × (o.fold ≡ false → setup.tables.folds ≡ [])
     × (output : List ℕ) × (sink.after.contents ≡ Some output) × TellsTheTruth (rules_of setup) (lines_of input) output × (status ≡ 0 → AreAllDecided output)
 
--- and what it leaves where a certificate is asked for answers the first board of the input, with a setup of their goal and costs
+-- and what it leaves where a certificate is asked for answers the first board of the input, with a setup of the same kind
 abbrev pub CertificatesAnswerTheFirst : Type 0
 CertificatesAnswerTheFirst =
     (o : Options) (source : Change SourceState) (sink : Change SinkState) (status : ℕ) (input : List ℕ)
@@ -64,7 +66,8 @@ CertificatesAnswerTheFirst =
     → sink.before.contents ≡ Some []
     → status < 2
     → IsTrueOf (Certify o) status source sink
-    → (setup : SetupModel) × (setup.goal ≡ o.goal) × (setup.rule ≡ o.costs)
+    → (setup : SetupModel) × (setup.goal ≡ o.goal) × (setup.rule ≡ o.costs) × (setup.limit ≡ o.limit) × (setup.workers ≡ o.workers) × (setup.spread ≡ o.spread)
+    × (setup.tables.split ≡ o.groups) × (o.fold ≡ true → setup.tables.lookups ≡ []) × (o.fold ≡ false → setup.tables.folds ≡ [])
     × (lines more : List (List ℕ)) × (output : List ℕ) × (lines_of input ≡ lines ++ more) × (sink.after.contents ≡ Some output)
     × AnswersFirst setup.tables.split (certifying_rules_of setup) lines output
 
