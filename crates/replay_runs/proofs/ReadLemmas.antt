@@ -10,7 +10,7 @@ use Rattle.batch_lines.specs.declared.lines.LineKind.TheVariants.{PassedOver, Wi
 use Rattle.batch_runs.specs.Batches.{HasFailed}
 use Rattle.batch_runs.specs.FirstLines.{IsPassedOver, FindsFirst, HasRead}
 use Rattle.batch_runs.proofs.FindingLemmas.{HasRead-more, HasRead-end, HasRead-first, HasRead-lost}
-use Rattle.std.specs.Prelude.{nat_lt, ◌&&◌}
+use Rattle.std.specs.Prelude.{nat_lt, ◌&&◌, unwrap_or}
 use Rattle.byte_streams.specs.Sink.{Puts, WritesAll, FailsWriting, PutsBeginning}
 use Rattle.byte_streams.proofs.SinkLemmas.{PutsBeginning-after}
 use Rattle.batch_lines.specs.declared.lines.LineKind.{LineKind}
@@ -18,7 +18,7 @@ use Rattle.world_model.specs.declared.steps.Refusal.{Refusal}
 use Rattle.world_model.specs.declared.steps.Step.{Step}
 use Rattle.world_model.specs.Worlds.{WorldState}
 use Rattle.world_model.specs.Steps.{IsRun}
-use Rattle.replay_runs.specs.Replies.{Reply, replies_text, replay_status_of, TextSays, RepliesToText, RepliesToKind, RepliesTo, RepliesToEach, Changes, steps_of, reply_text, reply_to, is_fine, are_fine}
+use Rattle.replay_runs.specs.Replies.{Reply, replies_text, replay_status_of, TextSays, RepliesToText, RepliesToKind, RepliesTo, RepliesToEach, Changes, steps_of, reply_text, reply_to, is_fine, are_fine, StepsAreTaken}
 use Rattle.replay_runs.specs.Replies.Reply.{passed_over, no_step, taken}
 use Rattle.batch_runs.specs.declared.faults.LinesFault.TheVariants.{Read, Write, Memory}
 use Rattle.replay_runs.specs.Stepping.{IsReplied, IsReportOf, RepliesToLines, Finishes}
@@ -269,3 +269,13 @@ played law jobs source sink passed line id w (Err Write) before begun (inr (late
     (inr (inr ((passed ++ line ∷ []) ++ later, id, replies, outcome, all, begun_end law jobs passed later line id w end replies outcome before begun replied given, begins)), readable, failed)
 played law jobs source sink passed line id w (Err (Memory lacking)) before begun (later, replies, end, all, replied, put, readable, kept) =
     (inr ((passed ++ line ∷ []) ++ later, id, replies, end, all, (begun_play jobs passed later line id w end replies before begun replied).0, put), readable, kept)
+
+-- ---- a text that says a step
+
+-- it says one step alone, since one is read from it
+pub reply_taken : (bytes : List ℕ) (found : Option Step) → ((step : Step) → (found ≡ Some step) ↔ TextSays bytes step) → StepsAreTaken bytes
+reply_taken bytes found read step passed_over says replies = absurd replies
+reply_taken bytes found read step no_step says replies = absurd (replies step says)
+reply_taken bytes found read step (taken other refusal) says replies =
+    let same : ◌≡◌ {A = Option Step} (Some other) (Some step) = sym ((read other).1 replies) ∙ (read step).1 says in
+    (refusal, ap (λ (s : Step). taken s refusal) (ap (λ (o : Option Step). unwrap_or o other) same))

@@ -110,3 +110,9 @@ WritesLine sink text fine (Err failure) = FailsWriting sink text
 -- the reply is written, and the answer is whether it and those before it are fine; or the sink has failed
 abbrev pub WritesReply : Change SinkState → Reply → Bool → Result Bool WriteFailed → Type 0
 WritesReply sink reply fine result = WritesLine sink (reply_text reply) (is_fine reply && fine) result
+
+-- ---- a law: the contract of a function without effect
+
+-- where a text says a step, the reply to it is that this step was taken, or refused
+abbrev pub StepsAreTaken : List ℕ → Type 0
+StepsAreTaken bytes = (step : Step) (reply : Reply) → TextSays bytes step → RepliesToText bytes reply → (refusal : Option Refusal) × (reply ≡ taken step refusal)

@@ -10,6 +10,7 @@
 #![tactic(auto)]
 
 mod board_line;
+pub mod laws;
 mod replay;
 mod sending;
 mod stepping;
