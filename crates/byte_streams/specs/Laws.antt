@@ -2,6 +2,7 @@
 use Rattle.std.specs.Prelude.{ℕ, ◌≡◌, true, false, List, [], ◌∷◌, ◌++◌, Option, None, Some, Result, Ok, Err, is_err}
 use Rattle.byte_streams.specs.Streams.{SourceState, SinkState, Change}
 use Rattle.byte_streams.specs.Source.{GivesNext}
+use Rattle.byte_streams.specs.Buffered.{AreNext}
 use Rattle.byte_streams.specs.Sink.{Writes, Flushes}
 use Rattle.byte_streams.specs.declared.sink.WriteFailed.{WriteFailed}
 use Rattle.byte_streams.specs.declared.source.ReadFailed.{ReadFailed}
@@ -17,6 +18,15 @@ BytesAreFirst =
     → source.before.left ≡ Some left
     → GivesNext source (Ok (Some byte))
     → (rest : List ℕ) × (left ≡ byte ∷ rest) × (source.after.left ≡ Some rest)
+
+-- where bytes that are held come next, the first of them is the byte that is answered, and the others come next after it
+abbrev pub HeldBytesComeNext : Type 0
+HeldBytesComeNext =
+    (source : Change SourceState) (left held : List ℕ) (first byte : ℕ)
+    → source.before.left ≡ Some left
+    → AreNext source.before.left (first ∷ held)
+    → GivesNext source (Ok (Some byte))
+    → (byte ≡ first) × AreNext source.after.left held
 
 -- a failure takes none of the bytes known to be left
 abbrev pub FailuresTakeNone : Type 0

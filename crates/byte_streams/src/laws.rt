@@ -1,6 +1,6 @@
 //! The laws of the definitions: each is the contract of a function that does nothing.
 
-ghost use Rattle.byte_streams.specs.Laws.{EndsAreTrue, BytesAreFirst};
+ghost use Rattle.byte_streams.specs.Laws.{EndsAreTrue, BytesAreFirst, HeldBytesComeNext};
 ghost use Rattle.byte_streams.specs.Laws.{FailuresTakeNone, AnswersTellFailures, FailuresLast};
 ghost use Rattle.byte_streams.specs.Laws.{PutsTellFailures, FlushesTellFailures};
 ghost use Rattle.byte_streams.specs.Laws.{PutsAddBytes, FlushesAddNone};
@@ -15,6 +15,12 @@ pub fn ends_are_true()
 #[tactic(auto, using(crate::proofs::SourceLemmas::one_taken))]
 pub fn bytes_are_first()
     ensures { BytesAreFirst }
+{}
+
+/// Bytes that a source holds are those that it gives next, one after the other.
+#[tactic(auto, using(crate::proofs::SourceLemmas::held_next))]
+pub fn held_bytes_come_next()
+    ensures { HeldBytesComeNext }
 {}
 
 /// A failure takes none of the bytes known to be left.

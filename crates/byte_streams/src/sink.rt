@@ -53,6 +53,10 @@ impl<W: Writer> ByteSink<W> {
     pub fn new(writer: W) -> Self
         ensures writer { inner_writer result ≡ writer }
         ensures fresh { sink_has_failed result ≡ false }
+        ensures shown { byte_sink_state W.contents result ≡ record {
+          contents = W.contents writer;
+          has_failed = false;
+        } }
     {
         ByteSink {
             writer,

@@ -49,6 +49,10 @@ impl<R: Reader> ByteSource<R> {
     pub fn new(reader: R) -> Self
         ensures reader { inner_reader result ≡ reader }
         ensures fresh { source_has_failed result ≡ false }
+        ensures shown { byte_source_state R.left result ≡ record {
+          left = R.left reader;
+          has_failed = false;
+        } }
     {
         ByteSource {
             reader,

@@ -1,5 +1,5 @@
 -- The laws of spellings and readings, and of what is read of a source.
-use Rattle.std.specs.Prelude.{ℕ, ◌≡◌, ◌≢◌, ◌⊎◌, ◌<◌, ◌≤◌, ◌^◌, ◌↔◌, List, [], ◌∷◌, ◌++◌, length, Some, Result, Ok, Err}
+use Rattle.std.specs.Prelude.{ℕ, ◌≡◌, ◌≢◌, ◌⊎◌, ◌<◌, ◌≤◌, ◌^◌, ◌↔◌, List, [], ◌∷◌, ◌++◌, length, Some, Result, Ok, Err, true}
 use Rattle.std.specs.List.{AllByRecursion}
 use Rattle.certificate.specs.Certificates.{CertificateModel, IsCertificate}
 use Rattle.certificate.specs.Spellings.{Spells, spelling, heading, announcement}
@@ -98,3 +98,8 @@ FaultsShowLast =
     → source.after.left ≡ Some left
     → ReadsCertificate source (Err (Format fault))
     → ((fault ≡ Truncated) × (left ≡ [])) ⊎ ((fault ≢ Truncated) × ((before : List ℕ) × (byte : ℕ) × (bytes ≡ before ++ byte ∷ []) × HasNoFault certificate before))
+
+-- it is answered that reading failed exactly where the source has failed
+abbrev pub FailuresAreOfTheSource : Type 0
+FailuresAreOfTheSource =
+    (source : Change SourceState) (result : Result CertificateModel ReadFault) → ReadsCertificate source result → (result ≡ Err Failed) ↔ (source.after.has_failed ≡ true)

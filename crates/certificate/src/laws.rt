@@ -4,6 +4,10 @@ ghost use Rattle.certificate.specs.Laws.{ReadingIsSpelling, SpelledOrFaulty, Not
 ghost use Rattle.certificate.specs.Laws.{OneFirstFault, FaultsComeFirst, NoneBeginsAnother};
 ghost use Rattle.certificate.specs.Laws.{OneCertificate, OneSpelling, AnswersTellOfBytes};
 ghost use Rattle.certificate.specs.Laws.{FaultlessIsSpelledOrCutOff, FaultsShowLast};
+ghost use Rattle.certificate.specs.Laws.{FailuresAreOfTheSource};
+ghost use Rattle.std.specs.Prelude.{◌≡◌, ◌↔◌, IsTrue};
+
+use crate::faults::{FormatFault, ReadFault, WriteFault};
 
 /// A certificate is read exactly where the bytes spell it. Else they have one first fault. Bytes
 /// have no fault, except that they may be cut off, exactly where they spell one or are cut off.
@@ -49,3 +53,29 @@ pub fn answers_tell_of_bytes()
 pub fn faults_show_last()
     ensures { FaultsShowLast }
 {}
+
+/// It is answered that a certificate can't be read exactly where its source has failed.
+pub fn failures_are_of_the_source()
+    ensures { FailuresAreOfTheSource }
+{}
+
+/// Two faults of bytes are equal only if they are the same.
+pub fn faults_of_bytes_are_compared(a: FormatFault, b: FormatFault) -> bool
+    ensures { IsTrue result ↔ (a ≡ b) }
+{
+    a == b
+}
+
+/// Two faults of reading are equal only if they are the same.
+pub fn faults_of_reading_are_compared(a: ReadFault, b: ReadFault) -> bool
+    ensures { IsTrue result ↔ (a ≡ b) }
+{
+    a == b
+}
+
+/// Two faults of writing are equal: there is one.
+pub fn faults_of_writing_are_compared(a: WriteFault, b: WriteFault) -> bool
+    ensures { IsTrue result ↔ (a ≡ b) }
+{
+    a == b
+}

@@ -210,7 +210,7 @@ bound_certificate_is order p bound best cause rows task tables sides costs low f
 }
 
 module _ {S : Type 0} (owner_of : S → ℕ → BoardModel → ℕ) where
-  cost_of : Outcome → ℕ
+  abbrev cost_of : Outcome → ℕ
   cost_of (Optimal cost plan rows) = cost
   cost_of (Unsolvable why) = 0
   cost_of (Bounded bound best cause rows) = bound
