@@ -20,6 +20,6 @@ WalksKeepTheClass = (goal : BoardModel) (moves : ℕ) (b : BoardModel) → IsBoa
 abbrev pub TwoMovesLeadAway : Type 0
 TwoMovesLeadAway = (goal b : BoardModel) → IsBoard goal → IsWalkedTo goal 2 b → b ≢ goal
 
--- wherever two moves of a walk stand, the second doesn't take back the first
+-- of two moves of a walk, one right after the other, the second doesn't take back the first
 abbrev pub NoMoveIsTakenBack : Type 0
 NoMoveIsTakenBack = (before after : List Move) (m m' : Move) → TakesNoneBack None (before ++ m ∷ m' ∷ after) → m ≢ opposite m'

@@ -19,7 +19,7 @@ pub fn two_moves_lead_away()
     ensures { TwoMovesLeadAway }
 {}
 
-/// No move of a walk takes back the one before it, wherever they stand.
+/// No move of a walk takes back the one before it.
 #[tactic(auto, using(crate::proofs::WalkLemmas::none_taken_back))]
 pub fn no_move_is_taken_back()
     ensures { NoMoveIsTakenBack }

@@ -41,7 +41,7 @@ pub struct Shown {
 }
 
 impl Shown {
-    /// Of a run that has shown nothing.
+    /// Nothing was shown yet.
     pub fn new() -> Self {
         Shown {
             times: AtomicU64::new(0),
