@@ -55,7 +55,8 @@ PlansAreAccepted =
     → Answers (task_in p) (Optimal cost plan rows)
     → IsProved (certificate_in p cost plan.items rows.items) tables
 
--- and it is a certificate, where the problem's tables and costs are those of certificates, and the bound and the count of rows fit into one
+-- what is made of a bound that answers a problem with its rows is a certificate, where the problem's tables and costs are those of
+-- certificates, and the bound and the count of rows fit into one
 abbrev pub BoundsHaveCertificates : Type 0
 BoundsHaveCertificates =
     (p : JobModel) (bound : ℕ) (best : Option (ℕ × Vec Move Global)) (cause : Cause) (rows : Vec (BoardModel × ℕ) Global)
@@ -76,7 +77,7 @@ ProvedPlansAreLeast =
     → Leads p.rule p.start plan.items p.goal cost × Proves p.rule rows.items (sum_in tables) p.start p.goal cost
 
 module _ {S : Type 0} (owner_of : S → ℕ → BoardModel → ℕ) where
-  -- the bound that is given for a plan without groups for its certificate is the plan's cost
+  -- where memory was refused for the groups of a plan's certificate, the bound is the plan's cost
   abbrev pub UncertifiedPlansGiveTheirCost : Type 0
   UncertifiedPlansGiveTheirCost =
       (p : JobModel) (owners : S) (n bound : ℕ) (best : Option (ℕ × Vec Move Global)) (cause : Cause) (rows : Option (Vec (BoardModel × ℕ) Global))

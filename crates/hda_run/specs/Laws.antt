@@ -138,7 +138,7 @@ TrueBoundsHaveProofs =
     → TellsTruth p (Bounded bound best cause None)
     → (rows : List (BoardModel × ℕ)) × Proves p.rule rows (task_in p).sum p.start p.goal bound
 
--- and it has no plan beside it: memory was refused
+-- a bound without rows has no plan beside it, and its cause is that memory was refused
 abbrev pub WithoutRowsMemoryWasRefused : Type 0
 WithoutRowsMemoryWasRefused =
     (p : JobModel) (bound : ℕ) (best : Option (ℕ × Vec Move Global)) (cause : Cause)

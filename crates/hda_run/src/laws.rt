@@ -29,7 +29,8 @@ pub fn shown_bounds_are_as_named<S: Spread>()
     ensures least { WaitingBeginsThere }
 {}
 
-/// Outcomes of one problem that tell the truth agree, and their rows prove what they say.
+/// Outcomes of one problem that tell the truth agree, and their rows prove what they say. A bound
+/// lacks rows only where memory was refused.
 #[tactic(auto, using(crate::proofs::LawLemmas::optimal, crate::proofs::LawLemmas::bounded, crate::proofs::LawLemmas::unsolvable, crate::proofs::LawLemmas::rows_prove, crate::proofs::LawLemmas::bounds_prove, crate::proofs::LawLemmas::proofs_exist, crate::proofs::LawLemmas::rows_missing))]
 pub fn truths_agree()
     ensures optimal { OptimalTruthsAgree }

@@ -46,7 +46,7 @@ module _ {X : Type 0} where
   some_at (x ∷ xs) zero low = (x, refl)
   some_at (x ∷ xs) (suc j) low = some_at xs j (omega (arith, low))
 
-  -- the places after one that has changed
+  -- the places other than one that has changed
   pub get_other : (xs : List X) (i k : ℕ) (q : X) → k ≢ i → slice_get (set xs i q) k ≡ slice_get xs k
   get_other [] i k q other = refl
   get_other (x ∷ xs) zero zero q other = absurd (other refl)

@@ -520,11 +520,11 @@ part_steps_kept n role part part' is keeps own purse to_one from_one step = spli
     alone it =
         subst (λ (p : PartState). Keeps n role p) (sym it.3)
         (⊎_elim (λ (e : ExpandStep role (turn part.worker it.0 it.1)). expanding_kept n role part it.0 it.1 is keeps (inl e))
-        (λ (s : SettleStep (turn part.worker it.0 it.1)). settling_kept n role part it.0 it.1 is keeps own s)
+        (λ (s : SettleStep (turn part.worker it.0 it.1)). settling_kept n role part it.0 it.1 is keeps (own it) s)
         it.2)
 
     at_book : (it : StepsAtBook role part part') → Keeps n role part'
-    at_book it = subst (λ (p : PartState). Keeps n role p) (sym it.5) (book_steps_kept n role part it.2 it.3 it.0 it.1 is keeps purse it.4)
+    at_book it = subst (λ (p : PartState). Keeps n role p) (sym it.5) (book_steps_kept n role part it.2 it.3 it.0 it.1 is keeps (purse it) it.4)
 
     split : IsPartStep role part part' → Keeps n role part'
     split (inl it) = alone it

@@ -18,7 +18,7 @@ use Rattle.world_model.specs.Credit.{IsCredited, packet_count}
 use Rattle.world_model.specs.Frontiers.{IsInFrontier, IsReached}
 use Rattle.world_model.specs.Quiet.{IsQuiet}
 use Rattle.thread_model.specs.Parts.{PartState, IsRole, Keeps}
-use Rattle.thread_model.specs.Changes.{part_with_worker, DropStep, HoldsOwnLast, Sends, Receives, IsBookStep, IsPartStep, opening_part}
+use Rattle.thread_model.specs.Changes.{part_with_worker, DropStep, HoldsOwnLast, Sends, Receives, IsBookStep, IsPartStep, StepsAlone, StepsAtBook, opening_part}
 use Rattle.thread_model.specs.Joined.{Shared, role_in, AreParts, world_with, IsOfParts, opening_parts}
 
 -- a part whose worker expands a board, by all moves or by all but the one back, keeps what it keeps
@@ -69,23 +69,19 @@ BookStepsAreKept =
     → IsBookStep role (turn (record { worker = part.worker; book = book }) answer (record { worker = worker; book = book' }))
     → Keeps n role (part_with_worker part worker)
 
--- so does one that takes any step by which the parts of a world change: it settles what is its own, its purse is not empty, and a packet goes
--- to one of the workers or comes from one
+-- so does one that takes any step of a world's part: where it steps alone its last item is its own, on the book its purse is not empty, and
+-- packets go to workers and come from them
 abbrev pub PartStepsAreKept : Type 0
 PartStepsAreKept =
     (n : ℕ) (role : Role) (part part' : PartState)
     → IsRole n role
     → Keeps n role part
-    → HoldsOwnLast role part.worker
-    → part.worker.purse ≢ 0
+    → (StepsAlone role part part' → HoldsOwnLast role part.worker)
+    → (StepsAtBook role part part' → part.worker.purse ≢ 0)
     → ((to : ℕ) → Sends to part part' → to < n)
     → ((from : ℕ) → Receives from part part' → from < n)
     → IsPartStep role part part'
     → Keeps n role part'
-
--- what comes has an item
-abbrev pub PacketsHaveItems : Type 0
-PacketsHaveItems = (from : ℕ) (part part' : PartState) → Receives from part part' → part'.worker.held ≢ []
 
 -- a part with which a run begins keeps that: the start's owner knows the start, and the others know nothing
 abbrev pub OpeningsAreKept : Type 0
@@ -94,6 +90,10 @@ OpeningsAreKept =
     → IsRole n role
     → (role.owner role.task.start ≢ role.me → Keeps n role (opening_part n (idle_worker n)))
     × ((via : Move) → role.owner role.task.start ≡ role.me → Keeps n role (opening_part n (first_worker n role.task via)))
+
+-- a packet that comes in has an item: the part holds something then
+abbrev pub PacketsHaveItems : Type 0
+PacketsHaveItems = (from : ℕ) (part part' : PartState) → Receives from part part' → part'.worker.held ≢ []
 
 -- parts that are joined are a shaped and sound world, with any book that has a floor for each
 abbrev pub JoinedPartsAreSound : Type 0

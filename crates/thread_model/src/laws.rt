@@ -17,14 +17,14 @@ pub fn steps_are_kept()
     ensures book { BookStepsAreKept }
 {}
 
-/// What comes has an item.
-pub fn packets_have_items()
-    ensures { PacketsHaveItems }
-{}
-
 /// So does a part with which a run begins.
 pub fn openings_are_kept()
     ensures { OpeningsAreKept }
+{}
+
+/// A packet that comes in has an item: the part holds something then.
+pub fn packets_have_items()
+    ensures { PacketsHaveItems }
 {}
 
 /// Joined parts are a sound world.
@@ -42,8 +42,8 @@ pub fn nothing_held_is_foreign()
     ensures { NothingHeldIsForeign }
 {}
 
-/// Each world of a run is that of parts which are joined. A part keeps what it keeps, whatever step
-/// of a world it takes.
+/// Each world of a run is that of parts which are joined. A part that takes a step of these keeps
+/// what it keeps.
 pub fn runs_are_of_parts()
     ensures opening { OpeningsAreOfParts }
     ensures step { StepsAreOfParts }

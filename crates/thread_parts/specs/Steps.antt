@@ -2,12 +2,11 @@
 use Rattle.std.specs.Prelude.{◌≡◌, ◌≢◌, ◌⊎◌, ℕ, ◌+◌, ◌^◌, ◌<◌, [], None, Some}
 use Rattle.thread_model.specs.Changes.{Sends, Receives}
 use Rattle.thread_model.specs.Parts.{PartState}
-use Rattle.world_model.specs.declared.steps.HaltCause.{HaltCause}
 use Rattle.world_model.specs.declared.steps.Refusal.{Refusal}
 use Rattle.world_model.specs.declared.steps.Refusal.TheVariants.{NothingThere, PurseTooSmall, RingFull, StillHolding, PurseFull, RingEmpty, Stopped, PurseEmpty}
 use Rattle.world_model.specs.Turns.{Turn, IsRefused, Unless}
 use Rattle.world_model.specs.Workers.{WorkerState, packet_for}
-use Rattle.world_model.specs.BookSteps.{AtBook, HaltStep}
+use Rattle.world_model.specs.BookSteps.{AtBook}
 use Rattle.world_model.specs.Books.{BookState}
 
 -- what is unsent for worker `to` goes into the ring as one packet, with 1 of the purse; whether the ring was full is not seen by the part
@@ -33,11 +32,11 @@ WithPurse Step it = Unless it (it.before.book.stop ≢ None) Stopped (Unless it 
 abbrev pub IsBarred : WorkerState → BookState → Refusal → Type 0
 IsBarred worker book refusal = ((book.stop ≢ None) × (refusal ≡ Stopped)) ⊎ ((¬ (book.stop ≢ None)) × (worker.purse ≡ 0) × (refusal ≡ PurseEmpty))
 
--- what is sent by a ring is sent
+-- where a ring takes a packet, the part has sent it
 abbrev pub SentIsSent : Type 0
 SentIsSent = (to : ℕ) (it : Turn PartState Refusal) → SendByRing to it → it.answer ≡ None → Sends to it.before it.after
 
--- what is delivered by a ring is received
+-- and where it gives one, the part has received it
 abbrev pub DeliveredIsReceived : Type 0
 DeliveredIsReceived = (from : ℕ) (it : Turn PartState Refusal) → DeliverByRing from it → it.answer ≡ None → Receives from it.before it.after
 
@@ -45,10 +44,10 @@ DeliveredIsReceived = (from : ℕ) (it : Turn PartState Refusal) → DeliverByRi
 abbrev pub RefusedPacketsChangeNothing : Type 0
 RefusedPacketsChangeNothing = (at : ℕ) (it : Turn PartState Refusal) (refusal : Refusal) → it.answer ≡ Some refusal → SendByRing at it ⊎ DeliverByRing at it → it.after ≡ it.before
 
--- with a purse, in a run that goes on, the step on the book is taken
-abbrev pub WithAPurseItIsTheStep : Type 0
-WithAPurseItIsTheStep = (cause : HaltCause) (it : Turn AtBook Refusal) → it.before.book.stop ≡ None → it.before.worker.purse ≢ 0 → WithPurse (HaltStep cause) it → HaltStep cause it
+-- with a purse, in a run that goes on, this step on the book is taken
+abbrev pub WithAPurseItIsTheStep : (Turn AtBook Refusal → Type 0) → Type 0
+WithAPurseItIsTheStep Step = (it : Turn AtBook Refusal) → it.before.book.stop ≡ None → it.before.worker.purse ≢ 0 → WithPurse Step it → Step it
 
--- without one, or in a run that is stopped, it changes nothing
-abbrev pub BarredStepsChangeNothing : Type 0
-BarredStepsChangeNothing = (cause : HaltCause) (it : Turn AtBook Refusal) → (it.before.book.stop ≢ None) ⊎ (it.before.worker.purse ≡ 0) → WithPurse (HaltStep cause) it → (it.answer ≢ None) × (it.after ≡ it.before)
+-- without one, or in a run that is stopped, it is refused and changes nothing
+abbrev pub BarredStepsChangeNothing : (Turn AtBook Refusal → Type 0) → Type 0
+BarredStepsChangeNothing Step = (it : Turn AtBook Refusal) → (it.before.book.stop ≢ None) ⊎ (it.before.worker.purse ≡ 0) → WithPurse Step it → (it.answer ≢ None) × (it.after ≡ it.before)

@@ -1,5 +1,8 @@
 //! What is true of the definitions: each law is the contract of a function that does nothing.
 
+ghost use Rattle.world_model.specs.declared.steps.HaltCause.{HaltCause};
+ghost use Rattle.world_model.specs.BookSteps.{AnnounceStep, GrantStep, HaltStep};
+ghost use Rattle.world_model.specs.Workers.{Role};
 ghost use Rattle.thread_parts.specs.Steps.{SentIsSent, DeliveredIsReceived};
 ghost use Rattle.thread_parts.specs.Steps.{RefusedPacketsChangeNothing};
 ghost use Rattle.thread_parts.specs.Steps.{WithAPurseItIsTheStep, BarredStepsChangeNothing};
@@ -12,8 +15,13 @@ pub fn packets_go_and_come()
     ensures refused { RefusedPacketsChangeNothing }
 {}
 
-/// A step on the book is taken exactly with a purse, in a run that goes on.
+/// A step on the book is taken with a purse, in a run that goes on. Else it is refused, and changes
+/// nothing.
 pub fn book_steps_need_a_purse()
-    ensures taken { WithAPurseItIsTheStep }
-    ensures barred { BarredStepsChangeNothing }
+    ensures announce { (role : Role) → WithAPurseItIsTheStep (AnnounceStep role) }
+    ensures grant { (role : Role) → WithAPurseItIsTheStep (GrantStep role) }
+    ensures halt { (cause : HaltCause) → WithAPurseItIsTheStep (HaltStep cause) }
+    ensures no_announce { (role : Role) → BarredStepsChangeNothing (AnnounceStep role) }
+    ensures no_grant { (role : Role) → BarredStepsChangeNothing (GrantStep role) }
+    ensures no_halt { (cause : HaltCause) → BarredStepsChangeNothing (HaltStep cause) }
 {}

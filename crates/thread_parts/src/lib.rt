@@ -11,7 +11,7 @@
 //! - Each step requires `IsSoundPart` and keeps it and the face. Steps on the book are lent the
 //!   book, so the caller holds the lock.
 //! - Differences from a world: Expand leaves out the move back, and an empty purse bars each step
-//!   on the book (S12).
+//!   on the book (S12, law `book_steps_need_a_purse`).
 //! - Start with `specs/Parts.antt`, then `src/own_steps.rt`.
 #![tactic(auto)]
 

@@ -114,9 +114,9 @@ LacksPlacesToExpand successors role worker lists =
     × AreOffered role.task.sum role.owner (but (left_out_by successors known) (item_by role.task.rule b known.cost)) offers
     × (¬ HasAllPlaces role.me lists offers)
 
--- places for four boards more, and for four at each f, are all places, whatever is offered
+-- places for four boards more, and for four at the f of each offer, are all places
 abbrev pub FourPlacesAreEnough : Type 0
-FourPlacesAreEnough = (me : ℕ) (lists : SearchListsModel) (offers : Offers) → 4 ≤ lists.closed.room → ((f : ℕ) → 4 ≤ places_at lists.waiting f) → HasAllPlaces me lists offers
+FourPlacesAreEnough = (me : ℕ) (lists : SearchListsModel) (offers : Offers) → 4 ≤ lists.closed.room → OfEach (λ offer. 4 ≤ places_at lists.waiting offer.f) offers → HasAllPlaces me lists offers
 
 -- three are too few: for boards, and at an offer that the worker owns
 abbrev pub ThreePlacesAreTooFew : Type 0
@@ -126,13 +126,12 @@ ThreePlacesAreTooFew = (me : ℕ) (lists : SearchListsModel) (offers : Offers) �
 abbrev pub OthersNeedNoPlaces : Type 0
 OthersNeedNoPlaces = (me : ℕ) (lists : SearchListsModel) (offers : Offers) → 4 ≤ lists.closed.room → OfEach (λ offer. offer.owner ≢ me) offers → HasAllPlaces me lists offers
 
--- with four places everywhere none is lacking for an expansion: memory isn't refused then
-abbrev pub FourPlacesAreNotLacking : Type 0
-FourPlacesAreNotLacking = (refused : OutOfMemory) (successors : Successors) (role : Role) (worker : WorkerState) (lists : SearchListsModel) → 4 ≤ lists.closed.room → ((f : ℕ) → 4 ≤ places_at lists.waiting f) → ¬ IfMemoryRefused {T = ℕ} (Err (Memory refused)) (LacksPlacesToExpand successors role worker lists)
-
--- where places are lacking, a board is next
-abbrev pub SomethingIsNextWherePlacesLack : Type 0
-SomethingIsNextWherePlacesLack = (successors : Successors) (role : Role) (worker : WorkerState) (lists : SearchListsModel) → LacksPlacesToExpand successors role worker lists → (b : BoardModel) × (known : Known) × IsNext role.task worker b known
+-- where memory is refused for an expansion, a board is next, and places are lacking for what its moves offer
+abbrev pub ExpansionsLackPlaces : Type 0
+ExpansionsLackPlaces =
+    (refused : OutOfMemory) (successors : Successors) (role : Role) (worker : WorkerState) (lists : SearchListsModel)
+    → IfMemoryRefused {T = ℕ} (Err (Memory refused)) (LacksPlacesToExpand successors role worker lists)
+    → (b : BoardModel) × (known : Known) × (offers : Offers) × IsNext role.task worker b known × (¬ HasAllPlaces role.me lists offers)
 
 -- what is offered adds up by this guide
 abbrev pub AddsUpBy : Guide → Offer → Type 0

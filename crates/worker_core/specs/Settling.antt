@@ -53,10 +53,14 @@ LacksPlaceForLast context held lists = (front : List Item) × (last : Item) × (
 abbrev pub NothingHeldLacksNothing : Type 0 → Type 0
 NothingHeldLacksNothing S = (context : ContextModel S) (lists : SearchListsModel) → ¬ LacksPlaceForLast context [] lists
 
--- a cost that is no news lacks no place
+-- where one item is held, and its cost is no news, no place is lacking
 abbrev pub NoNewsLacksNothing : Type 0 → Type 0
 NoNewsLacksNothing S = (context : ContextModel S) (item : Item) (lists : SearchListsModel) → is_news (map.get lists.closed.known (search_key item.board)) item.cost ≡ false → ¬ LacksPlaceForLast context (item ∷ []) lists
 
--- one place for a board, and one at each f, are enough: memory isn't refused then
+-- one place for a board, and one at its cost plus sum, are enough: memory isn't refused then
 abbrev pub OnePlaceIsEnough : Type 0 → Type 0
-OnePlaceIsEnough S = (refused : OutOfMemory) (context : ContextModel S) (held : List Item) (lists : SearchListsModel) → 0 < lists.closed.room → ((f : ℕ) → 0 < places_at lists.waiting f) → ¬ IfMemoryRefused {T = ℕ} (Err (Memory refused)) (LacksPlaceForLast context held lists)
+OnePlaceIsEnough S =
+    (refused : OutOfMemory) (context : ContextModel S) (item : Item) (lists : SearchListsModel)
+    → 0 < lists.closed.room
+    → 0 < places_at lists.waiting (item.cost + sum_of (parts_of context.tables) item.board)
+    → ¬ IfMemoryRefused {T = ℕ} (Err (Memory refused)) (LacksPlaceForLast context (item ∷ []) lists)

@@ -5,8 +5,7 @@ ghost use Rattle.worker_core.specs.Expanding.{FourPlacesAreEnough, ThreePlacesAr
 ghost use Rattle.worker_core.specs.Expanding.{OthersNeedNoPlaces, OnwardStepsAloneAreWhole};
 ghost use Rattle.worker_core.specs.Lanes.{IsAtSender, IsAtReceiver};
 ghost use Rattle.worker_core.specs.Roles.{TasksHaveGuides};
-ghost use Rattle.worker_core.specs.Expanding.{FourPlacesAreNotLacking};
-ghost use Rattle.worker_core.specs.Expanding.{SomethingIsNextWherePlacesLack};
+ghost use Rattle.worker_core.specs.Expanding.{ExpansionsLackPlaces};
 ghost use Rattle.worker_core.specs.Settling.{RefusedSettlesChangeNothing};
 ghost use Rattle.worker_core.specs.Settling.{NothingHeldLacksNothing, NoNewsLacksNothing};
 ghost use Rattle.worker_core.specs.Settling.{OnePlaceIsEnough};
@@ -21,7 +20,7 @@ pub fn tasks_have_guides()
     ensures { TasksHaveGuides }
 {}
 
-/// Places for four boards more, and for four at each f, are all places.
+/// Places for four boards more, and for four at the f of each offer, are all places.
 pub fn four_places_are_enough()
     ensures { FourPlacesAreEnough }
 {}
@@ -39,8 +38,7 @@ pub fn others_need_no_places()
 /// Memory is refused for an expansion only where a board is next, and a place is lacking for what
 /// its moves offer.
 pub fn expansions_lack_places()
-    ensures enough { FourPlacesAreNotLacking }
-    ensures next { SomethingIsNextWherePlacesLack }
+    ensures { ExpansionsLackPlaces }
 {}
 
 /// Memory is refused for an item only where one is held, its cost is news, and a place is lacking.
