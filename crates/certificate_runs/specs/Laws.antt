@@ -142,6 +142,6 @@ AcceptedBoundsAreBelow =
     → IsTrueVerdict input (accepted_bound_data bound)
     → (c : CertificateModel) × (certificate input ≡ Ok (c, [])) × (c.plan ≡ None) × NothingBelow c.costs c.start c.goal bound
 
--- and where it is true that the input is refused with this code, it is refused by it
+-- and where it is true that an input is refused with this code, its first fault, or the first cause against its certificate, has this code
 abbrev pub RefusedInputsHaveTheFault : Type 0
 RefusedInputsHaveTheFault = (input code : List ℕ) → IsTrueVerdict input (refused_certificate_data code) → IsCertificateRefusedBy input code

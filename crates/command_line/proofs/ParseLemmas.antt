@@ -293,7 +293,7 @@ costs_before_groups rows fault later (grid, shape, goal, said, first) (grid', sh
 -- ---- what options say of a search, a list of boards and a drawing
 
 pub search_said : SearchesAreSaid
-search_said rows o are = (are.limit, are.workers.count, are.workers.few, are.spread)
+search_said rows o are = (are.limit, are.workers.count, are.workers.some, are.workers.few, are.spread)
 
 abbrev some_letter : Option Text → ℕ
 some_letter None = 0

@@ -77,14 +77,14 @@ FlagsAreSaid =
 abbrev pub FlagsAreOff : Type 0
 FlagsAreOff = (o : Options) → AreDefaults o → (o.fold ≡ false) × (o.progress ≡ false) × (o.stats ≡ false)
 
--- the limit, the workers and their spread are those that the options of these names say
+-- the limit, the workers, from 1 to 16, and their spread are those that the options of these names say
 abbrev pub SearchesAreSaid : Type 0
 SearchesAreSaid =
     (rows : List Row) (o : Options)
     → AreOptions rows o
-    → HasNumber rows (codes "limit") o.limit × HasNumber rows (codes "workers") o.workers × (o.workers ≤ 16) × (first_of (codes "spread") rows ≡ Some (spread_text o.spread))
+    → HasNumber rows (codes "limit") o.limit × HasNumber rows (codes "workers") o.workers × (1 ≤ o.workers) × (o.workers ≤ 16) × (first_of (codes "spread") rows ≡ Some (spread_text o.spread))
 
--- options say one puzzle, and one way to search it
+-- options say one goal, rule of costs, limit, count of workers and spread
 abbrev pub OptionsAreDetermined : Type 0
 OptionsAreDetermined =
     (rows : List Row) (o o' : Options)
@@ -100,7 +100,7 @@ ListingsAreDetermined = (rows : List Row) (l l' : Listing) → SaysListing rows 
 abbrev pub StylesAreDetermined : Type 0
 StylesAreDetermined = (rows : List Row) (look look' : Style) → IsStyle rows look → IsStyle rows look' → look' ≡ look
 
--- `solve` writes a certificate exactly where that option is there
+-- `solve` writes a certificate exactly where the option `cert` is there
 abbrev pub CertIsSaid : Type 0
 CertIsSaid =
     (name : Text) (rows : List Row) (o : Options) → (AsksRun (Some (name, rows)) (Certify o) → IsSet rows (codes "cert")) × (AsksRun (Some (name, rows)) (Solve o) → ¬ IsSet rows (codes "cert"))
@@ -112,7 +112,7 @@ TextsAreOfFaults =
     → AsksText faults request
     → (text : String Global) × (((request ≡ Help text) × IsAmong DisplayHelp faults) ⊎ ((request ≡ Version text) × IsAmong DisplayVersion faults))
 
--- where faults ask for no text, usage is shown for one of them that is neither, or memory was refused
+-- where a parse with faults asks for nothing, one of them is neither and usage is shown, or memory was refused
 abbrev pub UsageIsOfFaults : Type 0
 UsageIsOfFaults =
     (faults : Kinds) (refusal : NoRequest)

@@ -23,8 +23,9 @@ pub fn options_say_one_thing()
     ensures styles { StylesAreDetermined }
 {}
 
-/// Options that are said have no fault, except that memory may be refused, and they say one puzzle
-/// and one way to search it. The same holds for boards that are said: they are one list.
+/// Options that are said have no fault, except that memory may be refused. They say one goal, rule
+/// of costs, limit, count of workers and spread. So it is with boards that are said: they are one
+/// list.
 pub fn options_have_no_fault()
     ensures options { OptionsHaveNoFault }
     ensures listings { ListingsHaveNoFault }
@@ -40,9 +41,10 @@ pub fn options_are_judged_in_order()
     ensures costs_before_groups { CostsAreJudgedBeforeGroups }
 {}
 
-/// Tables are folded, progress and figures printed, and a certificate written, exactly where the
-/// option is there. By default none of this is done. The options of these names say the limit, the
-/// workers and their spread. Help, the version and usage are shown only for faults that ask so.
+/// Tables are folded, and progress and figures printed, exactly where the option is there, and by
+/// default none of this. `solve` writes a certificate exactly where `--cert` is there. Options say
+/// the limit, workers and spread. Help and version are shown only where a fault asks for them,
+/// usage only for another fault.
 pub fn flags_are_said()
     ensures options { FlagsAreSaid }
     ensures defaults { FlagsAreOff }

@@ -29,7 +29,7 @@ const GROUPS: [&[u8]; 2] = [&[1, 2, 3, 4], &[5, 6, 7, 8]];
 // Other groups, as the second is smaller.
 const OTHER_GROUPS: [&[u8]; 2] = [&[1, 2, 3, 4], &[5, 6, 7]];
 
-// How many workers solve it.
+// How many workers are asked for; 17 are too many.
 const WORKERS: [usize; 4] = [1, 2, 16, 17];
 
 // Whose tables the checker has.
@@ -66,7 +66,7 @@ impl Judge {
     }
 }
 
-/// Prints for each judge what 1, 2 and 16 workers answer, and what the checker says of a plan that
+/// Prints for each judge what 1, 2, 16 and 17 workers answer, and what the checker says of a plan that
 /// was found without it: where whole tables guide the search, and where the same guide it, folded.
 pub fn print_checked<R: Threads + Wait + Print + AllocGlobal + Sync>(rt: &R) -> io::Result<()> {
     let Some(problem) = problem_at(Costs::Unit) else {
@@ -154,8 +154,8 @@ fn print_answers<R: Threads + Wait + Print + AllocGlobal + Sync>(
     rt.println("")
 }
 
-// Prints what is answered. What one worker expands is the same each time; of several, others than
-// the first have to take steps.
+// Prints what is answered. One worker makes as many expansions each time. Of several, one other
+// than the first has to take a step.
 fn print_answer(rt: &impl Print, workers: usize, answer: Answer, steps: &Steps) -> io::Result<()> {
     if let Answer::Fault(fault) = answer {
         return println!(rt; "workers {workers}: {} {fault}", fault.code());
@@ -178,7 +178,7 @@ struct Steps {
 }
 
 impl Steps {
-    // Of a run in which no step was taken.
+    // A gate that no step has passed.
     fn new() -> Self {
         Steps {
             expanded: Counter::new(),

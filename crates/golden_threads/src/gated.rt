@@ -28,8 +28,8 @@ pub fn print_runs<R: Threads + Wait + Print + AllocGlobal + Sync>(rt: &R) -> io:
 }
 
 // Prints whether a limit bounds the runs of one worker, of four and of sixteen, by both spreads.
-// Workers whose answer is dropped, and found once more by one of them alone, expand more than the
-// limit.
+// Where the workers' answer is dropped and one of them searches anew, more boards are expanded than
+// the limit.
 fn print_large<R: Threads + Wait + Print + AllocGlobal + Sync>(rt: &R) -> io::Result<()> {
     println!(rt; "# {FAR_START:?} at unit cost, limit {LIMIT}")?;
     for division in &Division::HASHED {

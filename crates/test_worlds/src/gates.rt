@@ -41,7 +41,7 @@ pub struct Shown {
 }
 
 impl Shown {
-    /// Nothing was shown yet.
+    /// A gate to which nothing was shown.
     pub fn new() -> Self {
         Shown {
             times: AtomicU64::new(0),

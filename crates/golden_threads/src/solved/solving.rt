@@ -45,10 +45,10 @@ fn print_shown(rt: &impl Print, shown: &Shown) -> io::Result<()> {
     if times == 0 {
         return Ok(());
     }
-    println!(rt;
-        "shown after each of {times} expansions: the last bound is {}",
-        shown.last()
-    )
+    match shown.last() {
+        0 => println!(rt; "expansions: {times}, no bound shown"),
+        last => println!(rt; "expansions: {times}, the last bound shown is {last}"),
+    }
 }
 
 // What both answer, or None where the case has no job, or memory was refused.
