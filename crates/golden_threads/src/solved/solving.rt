@@ -27,7 +27,7 @@ pub fn print_answers(rt: &(impl Print + AllocGlobal), case: &Case) -> io::Result
     let start = case.start;
     println!(rt; "# {}", case.title)?;
     println!(rt; "{start:?} at {} cost", case.costs.word())?;
-    print_both(rt, case, &answers(rt.alloc(), case))
+    print_both(rt, case, &answers_to(rt.alloc(), case))
 }
 
 fn print_both(rt: &impl Print, case: &Case, answers: &Option<Answers>) -> io::Result<()> {
@@ -52,7 +52,7 @@ fn print_shown(rt: &impl Print, shown: &Shown) -> io::Result<()> {
 }
 
 // What both answer, or None where the case has no job, or memory was refused.
-fn answers(alloc: Global, case: &Case) -> Option<Answers> {
+fn answers_to(alloc: Global, case: &Case) -> Option<Answers> {
     let problem = problem_of(case)?;
     let bound = bound_of(alloc, &problem.goal, &problem.weights, case.groups)?;
     answers_with(alloc, &problem, &bound, case.division)
