@@ -16,7 +16,7 @@ use Rattle.hda_run.specs.Jobs.{JobModel, task_in}
 use Rattle.thread_runs.specs.Solved.{IsSolved}
 use Rattle.checked_runs.specs.Certificates.{certificate_in, AreAsGood}
 use Rattle.checked_runs.specs.Checked.{IsProvedWith, IsCheckedRun, IsRefusedRun}
-use Rattle.checked_runs.specs.Laws.{BoundsAreAccepted, BoundsHaveCertificates, PlansAreAccepted, TablesFoldedFromAreAsGood, CheckedRunsAreRuns, UncertifiedPlansGiveTheirCost}
+use Rattle.checked_runs.specs.Laws.{BoundsAreAccepted, BoundsHaveCertificates, PlansAreAccepted, TablesFoldedFromAreAsGood, CheckedRunsAreRuns}
 use Rattle.checked_runs.specs.declared.faults.CheckedFault.{CheckedFault}
 use Rattle.checked_runs.specs.declared.faults.CheckedFault.TheVariants.{WorkerCount, Memory, Refused}
 use Rattle.std.specs.List.{AllByRecursion}
@@ -208,14 +208,3 @@ bound_certificate_is order p bound best cause rows task tables sides costs low f
   rows = rows_fit p.goal.grid rows.items answers.1.boards answers.1.low;
   rising = rise order p.goal.grid rows.items answers.1.boards answers.1.rising;
 }
-
-module _ {S : Type 0} (owner_of : S → ℕ → BoardModel → ℕ) where
-  abbrev cost_of : Outcome → ℕ
-  cost_of (Optimal cost plan rows) = cost
-  cost_of (Unsolvable why) = 0
-  cost_of (Bounded bound best cause rows) = bound
-
-  -- a plan without groups for its certificate gives its cost as a bound
-  pub cost_given : UncertifiedPlansGiveTheirCost owner_of
-  cost_given p owners n bound best cause rows (cost, plan, proof, refused, solved, is) =
-      (plan, proof, subst (λ (c : ℕ). IsSolved owner_of p owners n (Optimal c plan proof)) (sym (ap cost_of is)) solved)

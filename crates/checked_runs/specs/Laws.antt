@@ -1,9 +1,12 @@
 -- The laws of the tables that plans are checked with. Each is the contract of a function that does nothing.
-use Rattle.std.specs.Prelude.{◌≡◌, ◌≤◌, ◌<◌, ◌^◌, ℕ, Option, Some, Vec, length}
+use Rattle.std.specs.Prelude.{◌≡◌, ◌≤◌, ◌<◌, ◌^◌, ℕ, Option, Some, None, Vec, length}
 use Rattle.std.specs.declared.alloc.Global.{Global}
 use Rattle.board.specs.declared.moves.Move.{Move}
 use Rattle.board.specs.Boards.{BoardModel}
+use Rattle.memory.specs.declared.OutOfMemory.{OutOfMemory}
 use Rattle.outcomes.specs.declared.outcome.Cause.{Cause}
+use Rattle.outcomes.specs.declared.outcome.Cause.TheVariants.{Memory}
+use Rattle.outcomes.specs.declared.outcome.Want.TheVariants.{Refused}
 use Rattle.outcomes.specs.declared.outcome.Outcome.TheVariants.{Optimal, Bounded}
 use Rattle.outcomes.specs.Outcomes.{Answers}
 use Rattle.lower_bound.specs.Tables.{BoundModel, IsTables, ArePotentials, AreWhole}
@@ -80,9 +83,10 @@ module _ {S : Type 0} (owner_of : S → ℕ → BoardModel → ℕ) where
   -- where memory was refused for the groups of a plan's certificate, the bound is the plan's cost
   abbrev pub UncertifiedPlansGiveTheirCost : Type 0
   UncertifiedPlansGiveTheirCost =
-      (p : JobModel) (owners : S) (n bound : ℕ) (best : Option (ℕ × Vec Move Global)) (cause : Cause) (rows : Option (Vec (BoardModel × ℕ) Global))
-      → IsUncertifiedPlan owner_of p owners n (Bounded bound best cause rows)
-      → (plan : Vec Move Global) × (proof : Vec (BoardModel × ℕ) Global) × IsSolved owner_of p owners n (Optimal bound plan proof)
+      (p : JobModel) (owners : S) (n : ℕ) (outcome : Outcome)
+      → IsUncertifiedPlan owner_of p owners n outcome
+      → (cost : ℕ) × (plan : Vec Move Global) × (proof : Vec (BoardModel × ℕ) Global) × (refused : OutOfMemory)
+      × IsSolved owner_of p owners n (Optimal cost plan proof) × (outcome ≡ Bounded cost None (Memory (Refused refused)) None)
 
   -- for the outcome of a checked run, and for a certificate that is refused, there is an outcome that n workers answer, or one alone
   abbrev pub CheckedRunsAreRuns : Type 0

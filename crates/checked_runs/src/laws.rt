@@ -21,15 +21,11 @@ pub fn tables_folded_from_are_as_good()
     ensures { TablesFoldedFromAreAsGood }
 {}
 
-/// The checker accepts the rows of each bound that answers a problem, with tables as good.
+/// The checker accepts the rows of each bound that answers a problem, with tables as good. They make
+/// a certificate of version 2.
 pub fn bounds_are_accepted()
-    ensures { BoundsAreAccepted }
-{}
-
-/// The rows of such a bound make a certificate of version 2.
-#[tactic(auto, using(crate::proofs::OutcomeLemmas::bound_certificate_is))]
-pub fn bounds_have_certificates()
-    ensures { BoundsHaveCertificates }
+    ensures accepted { BoundsAreAccepted }
+    ensures certificates { BoundsHaveCertificates }
 {
     keys_are_in_order();
 }
@@ -47,9 +43,9 @@ pub fn proved_plans_are_least()
 {}
 
 /// For the outcome of a checked run, and for a certificate that is refused, there is an outcome
-/// that n workers answer, or one alone.
-/// Where memory is refused for the groups of a certificate, the bound is the cost of its plan.
-#[tactic(auto, using(crate::proofs::OutcomeLemmas::run_behind, crate::proofs::OutcomeLemmas::cost_given))]
+/// that n workers answer, or one alone. Where memory is refused for the groups of a certificate, the
+/// bound is the cost of its plan.
+#[tactic(auto, using(crate::proofs::OutcomeLemmas::run_behind))]
 pub fn checked_runs_are_runs<S: Spread>()
     ensures runs { CheckedRunsAreRuns S.owner_of }
     ensures costs { UncertifiedPlansGiveTheirCost S.owner_of }
