@@ -54,26 +54,26 @@ pub fn faults_show_last()
     ensures { FaultsShowLast }
 {}
 
-/// It is answered that a certificate can't be read exactly where its source has failed.
+/// The answer is that reading failed exactly where the source has failed.
 pub fn failures_are_of_the_source()
     ensures { FailuresAreOfTheSource }
 {}
 
-/// Two faults of bytes are equal only if they are the same.
+/// Whether two faults of bytes are the same.
 pub fn faults_of_bytes_are_compared(a: FormatFault, b: FormatFault) -> bool
     ensures { IsTrue result ↔ (a ≡ b) }
 {
     a == b
 }
 
-/// Two faults of reading are equal only if they are the same.
+/// Whether two faults of reading are the same.
 pub fn faults_of_reading_are_compared(a: ReadFault, b: ReadFault) -> bool
     ensures { IsTrue result ↔ (a ≡ b) }
 {
     a == b
 }
 
-/// Two faults of writing are equal: there is one.
+/// Whether two faults of writing are the same: there is one.
 pub fn faults_of_writing_are_compared(a: WriteFault, b: WriteFault) -> bool
     ensures { IsTrue result ↔ (a ≡ b) }
 {

@@ -126,8 +126,8 @@ impl Closed {
         self.room
     }
 
-    /// Makes places for this many new keys. It is refused only where there were fewer, and then the
-    /// table is as it was.
+    /// Makes places for this many new keys. Memory is refused only where there were fewer places,
+    /// and then the table is as it was.
     pub fn reserve(&mut self, alloc: Global, count: usize) -> Result<(), OutOfMemory>
         ensures ok { OnOk result (self.new ≡ record self.old { room = max self.old.room count }) }
         ensures err { OnErr result (self.new ≡ self.old) }

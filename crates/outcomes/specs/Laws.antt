@@ -86,7 +86,7 @@ BoundsAreLow =
     → IsAboveSums task most
     → bound ≤ GREATEST_COST + most
 
--- the cost is the cause only where each plan costs more than a run may reach
+-- the cost is the cause only where the bound is above the greatest cost at which a run expands a board
 abbrev pub BoundsForCostAreHigh : Type 0
 BoundsForCostAreHigh =
     (task : Task) (bound : ℕ) (best : Option (ℕ × Vec Move Global)) → EndAnswers task (ending.Bounded bound best Cost) → GREATEST_EXPANDED_COST < bound

@@ -52,21 +52,21 @@ pub fn bounds_for_cost_are_high()
     ensures { BoundsForCostAreHigh }
 {}
 
-/// Two reasons are equal only if they are the same.
+/// Whether two reasons are the same.
 pub fn reasons_are_compared(a: Why, b: Why) -> bool
     ensures { IsTrue result ↔ (a ≡ b) }
 {
     a == b
 }
 
-/// Two causes are equal only if they are the same.
+/// Whether two causes are the same.
 pub fn causes_are_compared(a: Cause, b: Cause) -> bool
     ensures { IsTrue result ↔ (a ≡ b) }
 {
     a == b
 }
 
-/// Two faults are equal only if they are the same.
+/// Whether two faults are the same.
 pub fn faults_are_compared(a: SolveFault, b: SolveFault) -> bool
     ensures { IsTrue result ↔ (a ≡ b) }
 {

@@ -73,7 +73,7 @@ TakesMemory (Halt i cause) = ⊥
 abbrev pub IsFirm : Option Refusal → Type 0
 IsFirm answer = (answer ≢ Some NoRoom) × ((refused : OutOfMemory) → answer ≢ Some (Memory refused))
 
--- every other answer is one
+-- an answer is firm unless it is one of these
 abbrev pub OtherAnswersAreFirm : Type 0
 OtherAnswersAreFirm = (answer : Option Refusal) → answer ≢ Some NoRoom → ((refused : OutOfMemory) → answer ≢ Some (Memory refused)) → IsFirm answer
 
@@ -175,7 +175,7 @@ RunsAreJoined =
     (w w' : WorldState) (made more : List (Step × Option Refusal))
     → IsRun w (made ++ more) w' ↔ ((middle : WorldState) × IsRun w made middle × IsRun middle more w')
 
--- no step but the five on the book may change it
+-- only the five steps on the book may change it
 abbrev pub BookStepsAloneUseIt : Type 0
 BookStepsAloneUseIt =
     (step : Step)
