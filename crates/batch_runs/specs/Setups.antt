@@ -7,10 +7,10 @@ use Rattle.outcomes.specs.Outcomes.{Task}
 use Rattle.lower_bound.specs.Bounds.{sum_of}
 use Rattle.lower_bound.specs.Tables.{BoundModel, ArePotentials, parts_of}
 use Rattle.lower_bound.specs.Lists.{IsFoldedBound}
-use Rattle.owners.specs.Owners.{owner_by_hash, owner_by_blank}
+use Rattle.owners.specs.Owners.{owner_by_hash, owner_by_blank, owner_by_abstract_hash}
 use Rattle.world_model.specs.declared.limits.TheConstants.{WORKER_LIMIT}
 use Rattle.batch_runs.specs.declared.setup.SpreadKind.{SpreadKind}
-use Rattle.batch_runs.specs.declared.setup.SpreadKind.TheVariants.{Zobrist, Blank}
+use Rattle.batch_runs.specs.declared.setup.SpreadKind.TheVariants.{Zobrist, Blank, Abstract}
 
 -- the goal and the cost rule; the tables whose values are added; how many boards may be expanded for a line; how many workers there
 -- are, and how boards are spread over them
@@ -49,6 +49,7 @@ IsFoldedSetup setup folded = (tables : BoundModel) × IsFoldedBound setup.tables
 abbrev pub owner_by : SpreadKind → ℕ → BoardModel → ℕ
 owner_by Zobrist = owner_by_hash
 owner_by Blank = owner_by_blank
+owner_by Abstract = owner_by_abstract_hash
 
 -- what is asked of a board: the plans from it to the setup's goal, at the setup's costs
 abbrev pub task_of_setup : SetupModel → BoardModel → Task

@@ -20,6 +20,8 @@ pub enum SpreadKind {
     Zobrist,
     /// By the cell of the blank.
     Blank,
+    /// By a hash of every fourth tile.
+    Abstract,
 }
 
 /// What all lines of a batch have in common: the goal, the cost rule, the tables that guide the

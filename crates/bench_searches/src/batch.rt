@@ -118,6 +118,7 @@ fn read_spread(word: &str) -> Option<SpreadKind> {
     match word {
         "zobrist" => Some(SpreadKind::Zobrist),
         "blank" => Some(SpreadKind::Blank),
+        "abstract" => Some(SpreadKind::Abstract),
         _ => None,
     }
 }

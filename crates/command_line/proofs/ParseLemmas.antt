@@ -29,7 +29,7 @@ use Rattle.command_line.specs.declared.faults.NoRequest.TheVariants.{Usage, Goal
 use Rattle.command_line.specs.declared.requests.Request.{Request}
 use Rattle.command_line.specs.declared.requests.Request.TheVariants.{Solve, Certify, Check, Draw, Upgrade, Replay, Boards, Help, Version}
 use Rattle.batch_runs.specs.declared.setup.SpreadKind.{SpreadKind}
-use Rattle.batch_runs.specs.declared.setup.SpreadKind.TheVariants.{Zobrist, Blank}
+use Rattle.batch_runs.specs.declared.setup.SpreadKind.TheVariants.{Zobrist, Blank, Abstract}
 use Rattle.drawings.specs.declared.drawing.Style.TheVariants as style
 use Rattle.command_line.specs.declared.faults.NoRequest.{NoRequest}
 use Rattle.board.specs.Shapes.{ShapeModel}
@@ -304,6 +304,11 @@ one_spread Zobrist Zobrist same = refl
 one_spread Zobrist Blank same = let z = ap some_letter same in absurd (omega arith)
 one_spread Blank Zobrist same = let z = ap some_letter same in absurd (omega arith)
 one_spread Blank Blank same = refl
+one_spread Abstract Abstract same = refl
+one_spread Abstract Zobrist same = let z = ap some_letter same in absurd (omega arith)
+one_spread Abstract Blank same = let z = ap some_letter same in absurd (omega arith)
+one_spread Zobrist Abstract same = let z = ap some_letter same in absurd (omega arith)
+one_spread Blank Abstract same = let z = ap some_letter same in absurd (omega arith)
 
 pub one_search : OptionsAreDetermined
 one_search rows o o' are are' =

@@ -104,7 +104,7 @@ pub record MakesCommand (app : App) (made : Result Command Error) : Type 0 where
 
 -- the values that `--spread` may have
 abbrev pub AreChoices : Choices → Type 0
-AreChoices spreads = map (λ t. t.now) spreads.now ≡ codes "zobrist" ∷ codes "blank" ∷ []
+AreChoices spreads = map (λ t. t.now) spreads.now ≡ codes "zobrist" ∷ codes "blank" ∷ codes "abstract" ∷ []
 
 -- the program with these values of `--spread`
 abbrev pub IsProgram : App → Type 0

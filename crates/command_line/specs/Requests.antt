@@ -10,7 +10,7 @@ use Rattle.board.specs.Weights.{WeightsModel, unit_rule}
 use Rattle.pattern_index.specs.Partitions.{PartitionModel}
 use Rattle.batch_lines.specs.Words.{IsFirstWordFault}
 use Rattle.batch_runs.specs.declared.setup.SpreadKind.{SpreadKind}
-use Rattle.batch_runs.specs.declared.setup.SpreadKind.TheVariants.{Zobrist, Blank}
+use Rattle.batch_runs.specs.declared.setup.SpreadKind.TheVariants.{Zobrist, Blank, Abstract}
 use Rattle.option_texts.specs.Texts.{comma_words, IsGoalOf, SaysCosts, group_texts, AreGroupsOf}
 use Rattle.option_texts.specs.Faults.{IsFirstCostsFault, IsFirstGroupsFault}
 use Rattle.option_texts.specs.Defaults.{default_groups}
@@ -45,6 +45,7 @@ pub record HasNumber (rows : List Row) (id : Text) (n : ℕ) : Type 0 where
 abbrev pub spread_text : SpreadKind → Text
 spread_text Zobrist = codes "zobrist"
 spread_text Blank = codes "blank"
+spread_text Abstract = codes "abstract"
 
 -- an option without a value is there
 abbrev pub IsSet : List Row → Text → Type 0

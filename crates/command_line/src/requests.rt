@@ -22,7 +22,7 @@ use pattern_index::Partition;
 use std::alloc::Global;
 
 // The values that `--spread` may have.
-static SPREADS: [&str; 2] = ["zobrist", "blank"];
+static SPREADS: [&str; 3] = ["zobrist", "blank", "abstract"];
 
 /// A puzzle and how it is searched.
 #[derive(Debug, Drop)]

@@ -128,5 +128,8 @@ fn spread_in(matches: &ArgMatches<'_>) -> Option<SpreadKind>
     if text == "blank" {
         return Some(SpreadKind::Blank);
     }
+    if text == "abstract" {
+        return Some(SpreadKind::Abstract);
+    }
     None
 }

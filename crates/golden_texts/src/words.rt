@@ -90,6 +90,7 @@ fn print_options(rt: &impl Print, name: &str, options: &Options) -> io::Result<(
     let spread = match options.spread {
         SpreadKind::Zobrist => "zobrist",
         SpreadKind::Blank => "blank",
+        SpreadKind::Abstract => "abstract",
     };
     let progress = if options.progress {
         ", with progress"

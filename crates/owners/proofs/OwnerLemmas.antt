@@ -13,7 +13,7 @@ use Rattle.board.proofs.MoveLemmas.{blank_after}
 use Rattle.board.proofs.TileLemmas.{cell_is, has_cell}
 use Rattle.search_keys.specs.SearchKeys.{HasSearchKey}
 use Rattle.search_keys.proofs.SearchKeyLemmas.{one_board as same_board}
-use Rattle.owners.specs.Owners.{word_on, hash_from, hash_of}
+use Rattle.owners.specs.Owners.{hash_by}
 use Rattle.owners.specs.Slides.{IsMoved}
 use Rattle.owners.specs.declared.spread.Moved.{Moved}
 
@@ -23,23 +23,23 @@ use Rattle.owners.specs.declared.spread.Moved.{Moved}
 goes_out : (a b : ℕ) → bit_xor (bit_xor a b) a ≡ b
 goes_out a b = ap (λ (x : ℕ). bit_xor x a) (xor_comm a b) ∙ xor_assoc b a a ∙ ap (bit_xor b) (xor_self a) ∙ xor_zero_r b
 
-module _ (cells : ℕ) where
+module _ (word_of : ℕ → ℕ → ℕ) where
   -- where a number is replaced, the words of the old one and of the new one on its cell come into the exclusive or
-  pub hash-set : (tiles : List ℕ) (k i cell tile : ℕ) → i < length tiles → cell ≡ k + i → hash_from cells k (set tiles i tile) ≡ bit_xor (bit_xor (hash_from cells k tiles) (word_on cells (get_or tiles i 0) cell)) (word_on cells tile cell)
+  pub hash-set : (tiles : List ℕ) (k i cell tile : ℕ) → i < length tiles → cell ≡ k + i → hash_by word_of k (set tiles i tile) ≡ bit_xor (bit_xor (hash_by word_of k tiles) (word_of (get_or tiles i 0) cell)) (word_of tile cell)
   hash-set [] k i cell tile within at = absurd (omega (arith, within))
   hash-set (t ∷ ts) k zero cell tile within at =
       let here : k ≡ cell = omega (arith, at) in
-      let h = hash_from cells (k + 1) ts in
-      xor_comm (word_on cells tile k) h
-      ∙ ap (λ (x : ℕ). bit_xor x (word_on cells tile k)) (sym (goes_out (word_on cells t k) h))
-      ∙ ap (λ (x : ℕ). bit_xor (bit_xor (bit_xor (word_on cells t k) h) (word_on cells t x)) (word_on cells tile x)) here
+      let h = hash_by word_of (k + 1) ts in
+      xor_comm (word_of tile k) h
+      ∙ ap (λ (x : ℕ). bit_xor x (word_of tile k)) (sym (goes_out (word_of t k) h))
+      ∙ ap (λ (x : ℕ). bit_xor (bit_xor (bit_xor (word_of t k) h) (word_of t x)) (word_of tile x)) here
   hash-set (t ∷ ts) k (suc i) cell tile within at =
-      let a = word_on cells t k in
-      let h = hash_from cells (k + 1) ts in
-      let old = word_on cells (get_or ts i 0) cell in
+      let a = word_of t k in
+      let h = hash_by word_of (k + 1) ts in
+      let old = word_of (get_or ts i 0) cell in
       ap (bit_xor a) (hash-set ts (k + 1) i cell tile (omega (arith, within)) (omega (arith, at)))
-      ∙ sym (xor_assoc a (bit_xor h old) (word_on cells tile cell))
-      ∙ ap (λ (x : ℕ). bit_xor x (word_on cells tile cell)) (sym (xor_assoc a h old))
+      ∙ sym (xor_assoc a (bit_xor h old) (word_of tile cell))
+      ∙ ap (λ (x : ℕ). bit_xor x (word_of tile cell)) (sym (xor_assoc a h old))
 
 -- a tile below n, and 0 for any other
 abbrev pub below : ℕ → ℕ → ℕ
@@ -52,11 +52,13 @@ below_no : (n tile : ℕ) → n ≤ tile → below n tile ≡ 0
 below_no n tile high = cond-false (ltb tile n) tile 0 (le-ltb tile n high)
 
 -- the blank has no word, so the hash of no tile at all is 0
-pub hash_begun : (cells k : ℕ) (tiles : List ℕ) → hash_from cells k (map (below 1) tiles) ≡ 0
-hash_begun cells k [] = refl
-hash_begun cells k (t ∷ ts) =
+pub hash_begun : (word_of : ℕ → ℕ → ℕ) → ((cell : ℕ) → word_of 0 cell ≡ 0) → (k : ℕ) (tiles : List ℕ) → hash_by word_of k (map (below 1) tiles) ≡ 0
+hash_begun word_of zero_word k [] = refl
+hash_begun word_of zero_word k (t ∷ ts) =
     let none : below 1 t ≡ 0 = ⊎_elim (λ (low : t < 1). let zero_is : t ≡ 0 = omega (arith, low) in below_yes 1 t low ∙ zero_is) (below_no 1 t) (cases_lt t 1) in
-    ap (λ (x : ℕ). bit_xor (word_on cells x k) (hash_from cells (k + 1) (map (below 1) ts))) none ∙ hash_begun cells (k + 1) ts
+    ap (λ (x : ℕ). bit_xor (word_of x k) (hash_by word_of (k + 1) (map (below 1) ts))) none
+    ∙ ap (λ (x : ℕ). bit_xor x (hash_by word_of (k + 1) (map (below 1) ts))) (zero_word k)
+    ∙ hash_begun word_of zero_word (k + 1) ts
 
 -- the tiles below n + 1 are those below n, and n on its cell
 pub tiles_more : (b : BoardModel) (n : ℕ) → IsBoard b → n < cell_count b.grid → map (below (n + 1)) b.tiles ≡ set (map (below n) b.tiles) (cell_of b n) n
@@ -87,32 +89,33 @@ tiles_more b n board within =
     ∙ sym (get_or-set_other before place c n 0 other ∙ get_or-map (below n) b.tiles c 0 0 within_c))
     (cases_eq c place))
 
--- the hash of the tiles below n + 1 is the exclusive or of that of the tiles below n and the word of tile n on its cell
-pub hash_more : (b : BoardModel) (n hash : ℕ) → IsBoard b → n < cell_count b.grid → hash ≡ hash_from (cell_count b.grid) 0 (map (below n) b.tiles) → bit_xor hash (word_on (cell_count b.grid) n (cell_of b n)) ≡ hash_from (cell_count b.grid) 0 (map (below (n + 1)) b.tiles)
-hash_more b n hash board within is =
-    let cells = cell_count b.grid in
-    let place = cell_of b n in
-    let stands = has_cell b board n within in
-    let one_each = board.one_each in
-    let before = map (below n) b.tiles in
-    let room : place < length before = omega (arith, stands.0, one_each, length-map b.tiles (below n)) in
-    let was : get_or before place 0 ≡ 0 =
-    get_or-map (below n) b.tiles place 0 0 (omega (arith, stands.0, one_each)) ∙ ap (below n) stands.1 ∙ below_no n n (omega arith) in
-    ap (λ (x : ℕ). bit_xor x (word_on cells n place)) (is ∙ sym (xor_zero_r (hash_from cells 0 before)))
-    ∙ ap (λ (x : ℕ). bit_xor (bit_xor (hash_from cells 0 before) (word_on cells x place)) (word_on cells n place)) (sym was)
-    ∙ sym (hash-set cells before 0 place place n room (omega arith))
-    ∙ ap (hash_from cells 0) (sym (tiles_more b n board within))
+module _ (word_of : ℕ → ℕ → ℕ) (b : BoardModel) (n hash : ℕ) (board : IsBoard b) where
+  -- the hash of the tiles below n + 1 is the exclusive or of that of the tiles below n and the word of tile n on its cell
+  pub hash_more : ((cell : ℕ) → word_of 0 cell ≡ 0) → n < cell_count b.grid → hash ≡ hash_by word_of 0 (map (below n) b.tiles) → bit_xor hash (word_of n (cell_of b n)) ≡ hash_by word_of 0 (map (below (n + 1)) b.tiles)
+  hash_more zero_word within is =
+      let place = cell_of b n in
+      let stands = has_cell b board n within in
+      let one_each = board.one_each in
+      let before = map (below n) b.tiles in
+      let room : place < length before = omega (arith, stands.0, one_each, length-map b.tiles (below n)) in
+      let was : get_or before place 0 ≡ 0 =
+      get_or-map (below n) b.tiles place 0 0 (omega (arith, stands.0, one_each)) ∙ ap (below n) stands.1 ∙ below_no n n (omega arith) in
+      let none : word_of (get_or before place 0) place ≡ 0 = ap (λ (x : ℕ). word_of x place) was ∙ zero_word place in
+      ap (λ (x : ℕ). bit_xor x (word_of n place)) (is ∙ sym (xor_zero_r (hash_by word_of 0 before)))
+      ∙ ap (λ (x : ℕ). bit_xor (bit_xor (hash_by word_of 0 before) x) (word_of n place)) (sym none)
+      ∙ sym (hash-set word_of before 0 place place n room (omega arith))
+      ∙ ap (hash_by word_of 0) (sym (tiles_more b n board within))
 
--- the hash of all tiles is the board's
-pub hash_ended : (b : BoardModel) (n hash : ℕ) → IsBoard b → cell_count b.grid ≤ n → hash ≡ hash_from (cell_count b.grid) 0 (map (below n) b.tiles) → hash ≡ hash_of b
-hash_ended b n hash board all is =
-    let same : map (below n) b.tiles ≡ b.tiles =
-    same_number_lists (map (below n) b.tiles) b.tiles (length-map b.tiles (below n))
-    (λ (c : ℕ) (c_in : c < length (map (below n) b.tiles)).
-    let within : c < length b.tiles = omega (arith, c_in, length-map b.tiles (below n)) in
-    let low : get_or b.tiles c 0 < cell_count b.grid = All-get_or (λ (t : ℕ). t < cell_count b.grid) b.tiles c 0 within board.in_range in
-    get_or-map (below n) b.tiles c 0 0 within ∙ below_yes n (get_or b.tiles c 0) (omega (arith, low, all))) in
-    is ∙ ap (hash_from (cell_count b.grid) 0) same
+  -- the hash of all tiles is the board's
+  pub hash_ended : cell_count b.grid ≤ n → hash ≡ hash_by word_of 0 (map (below n) b.tiles) → hash ≡ hash_by word_of 0 b.tiles
+  hash_ended all is =
+      let same : map (below n) b.tiles ≡ b.tiles =
+      same_number_lists (map (below n) b.tiles) b.tiles (length-map b.tiles (below n))
+      (λ (c : ℕ) (c_in : c < length (map (below n) b.tiles)).
+      let within : c < length b.tiles = omega (arith, c_in, length-map b.tiles (below n)) in
+      let low : get_or b.tiles c 0 < cell_count b.grid = All-get_or (λ (t : ℕ). t < cell_count b.grid) b.tiles c 0 within board.in_range in
+      get_or-map (below n) b.tiles c 0 0 within ∙ below_yes n (get_or b.tiles c 0) (omega (arith, low, all))) in
+      is ∙ ap (hash_by word_of 0) same
 
 -- ---- the board after a slide
 

@@ -1,7 +1,7 @@
 -- Words, hashes and owners that are known.
 use Rattle.std.specs.Prelude.{ℕ, ◌≡◌, List, [], ◌∷◌}
 use Rattle.board.specs.Boards.{BoardModel, goal_of}
-use Rattle.owners.specs.Owners.{word, hash_of, owner_by_blank, owner_by_hash}
+use Rattle.owners.specs.Owners.{word, hash_of, owner_by_blank, owner_by_hash, owner_by_abstract_hash}
 
 -- the first words of SplitMix64 from eight zero bytes on
 abbrev pub FirstWords : Type 0
@@ -25,9 +25,11 @@ large = record {
 abbrev owners_of : (ℕ → BoardModel → ℕ) → BoardModel → List ℕ
 owners_of owner_among b = owner_among 2 b ∷ owner_among 3 b ∷ owner_among 5 b ∷ owner_among 16 b ∷ []
 
--- the owners of the two boards by their blanks, and by their hashes, whose remainders another program computed
+-- the owners of the two boards by their blanks, and by their hashes and abstract hashes, whose remainders another program computed
 pub record OwnersOfBoards : Type 0 where
   pub small_by_blank : owners_of owner_by_blank small ≡ 1 ∷ 0 ∷ 3 ∷ 3 ∷ []
   pub large_by_blank : owners_of owner_by_blank large ≡ 0 ∷ 0 ∷ 4 ∷ 8 ∷ []
   pub small_by_hash : owners_of owner_by_hash small ≡ 0 ∷ 2 ∷ 1 ∷ 6 ∷ []
   pub large_by_hash : owners_of owner_by_hash large ≡ 1 ∷ 0 ∷ 3 ∷ 1 ∷ []
+  pub small_by_abstract_hash : owners_of owner_by_abstract_hash small ≡ 1 ∷ 1 ∷ 4 ∷ 15 ∷ []
+  pub large_by_abstract_hash : owners_of owner_by_abstract_hash large ≡ 1 ∷ 0 ∷ 2 ∷ 11 ∷ []

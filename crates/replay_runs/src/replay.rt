@@ -10,7 +10,7 @@ use crate::board_line::replay_lines;
 use crate::worlds::Opening;
 use batch_runs::{LinesFault, Setup, SpreadKind};
 use byte_streams::{Sink, Source};
-use owners::{ByBlank, Spread, Zobrist};
+use owners::{Abstract, ByBlank, Spread, Zobrist};
 use std::alloc::Global;
 use std::thread::Threads;
 
@@ -44,6 +44,10 @@ pub fn run_replay<R: Threads + Sync, S: Source, K: Sink>(
             replay_spread(alloc, source, sink, setup, &spread)
         }
         SpreadKind::Blank => replay_spread(alloc, source, sink, setup, &ByBlank),
+        SpreadKind::Abstract => {
+            let spread = Abstract::new(setup.shape());
+            replay_spread(alloc, source, sink, setup, &spread)
+        }
     }
 }
 

@@ -18,8 +18,8 @@ use Rattle.world_ends.specs.Endings.{EndsIn}
 use Rattle.world_ends.specs.Readings.{EndsWithFigures}
 use Rattle.world_ends.specs.declared.figures.Figures.{Figures}
 use Rattle.world_ends.specs.declared.reading.EndingWithFigures.{EndingWithFigures}
-use Rattle.owners.specs.Owners.{AreWorkers, owner_by_hash-lt, owner_by_blank-lt}
-use Rattle.batch_runs.specs.declared.setup.SpreadKind.TheVariants.{Zobrist, Blank}
+use Rattle.owners.specs.Owners.{AreWorkers, owner_by_hash-lt, owner_by_blank-lt, owner_by_abstract_hash-lt}
+use Rattle.batch_runs.specs.declared.setup.SpreadKind.TheVariants.{Zobrist, Blank, Abstract}
 use Rattle.batch_runs.specs.Setups.{SetupModel, owner_by, task_of_setup}
 use Rattle.batch_runs.specs.Batches.{IsTruthful}
 use Rattle.thread_joins.specs.Threads.{IsJoined}
@@ -41,6 +41,7 @@ use Rattle.outcomes.specs.declared.outcome.Outcome.TheVariants as outcome
 pub setup_owners : AreWorkers owner_by
 setup_owners Zobrist = owner_by_hash-lt
 setup_owners Blank = owner_by_blank-lt
+setup_owners Abstract = owner_by_abstract_hash-lt
 
 module _ {S T : Type 0} (owner_of : S → ℕ → BoardModel → ℕ) (are : AreWorkers owner_of) (owners : S) (other_of : T → ℕ → BoardModel → ℕ) (others_are : AreWorkers other_of) (others : T) where
   lone_board : (b : BoardModel) → owner_of owners 1 b ≡ other_of others 1 b

@@ -13,7 +13,7 @@ use board::Board;
 use hda_run::{Gate, Job, read_one};
 use memory::OutOfMemory;
 use outcomes::{Ending, Outcome};
-use owners::{ByBlank, Spread, Zobrist};
+use owners::{Abstract, ByBlank, Spread, Zobrist};
 use std::alloc::Global;
 use std::sync::Wait;
 use std::thread::Threads;
@@ -129,6 +129,10 @@ pub(crate) fn answer_board<A: TellsBounds, R: Threads + Wait + Sync, G: Gate + S
         }
         SpreadKind::Blank => {
             answer_spread::<A, R, ByBlank, G>(rt, alloc, question, &ByBlank, gate)
+        }
+        SpreadKind::Abstract => {
+            let spread = Abstract::new(setup.shape());
+            answer_spread::<A, R, Abstract, G>(rt, alloc, question, &spread, gate)
         }
     }
 }

@@ -128,6 +128,7 @@ fn spread_of(word: &str) -> Option<SpreadKind> {
     match word {
         "zobrist" => Some(SpreadKind::Zobrist),
         "blank" => Some(SpreadKind::Blank),
+        "abstract" => Some(SpreadKind::Abstract),
         _ => None,
     }
 }

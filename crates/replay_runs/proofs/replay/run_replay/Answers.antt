@@ -13,3 +13,7 @@ returns-in-Zobrist-clause-replays g c =
 pub returns-in-Blank-clause-replays : goal.returns-in-Blank-clause-replays
 returns-in-Blank-clause-replays g c =
     subst (λ (kind : SpreadKind). Replays (jobs_by (owner_by kind) c.args.setup.now) (change g.S.Source.state c.args.source.now c.replay_spread-in-Blank.new.source) (change g.K.Sink.state c.args.sink.now c.replay_spread-in-Blank.new.sink) c.replay_spread-in-Blank.result) (sym (sym c.spread_kind.ensures ∙ c.in-Blank.is)) c.replay_spread-in-Blank.ensures.replays
+
+pub returns-in-Abstract-clause-replays : goal.returns-in-Abstract-clause-replays
+returns-in-Abstract-clause-replays g c =
+    subst (λ (kind : SpreadKind). Replays (jobs_by (owner_by kind) c.args.setup.now) (change g.S.Source.state c.args.source.now c.replay_spread-in-Abstract.new.source) (change g.K.Sink.state c.args.sink.now c.replay_spread-in-Abstract.new.sink) c.replay_spread-in-Abstract.result) (sym (sym c.spread_kind.ensures ∙ c.in-Abstract.is)) c.replay_spread-in-Abstract.ensures.replays

@@ -1,12 +1,12 @@
 use Rattle.std.specs.Prelude.{◌≡◌, ◌≤◌, map}
 use Rattle.board.specs.Shapes.{cell_count}
-use Rattle.owners.specs.Owners.{hash_from}
+use Rattle.owners.specs.Owners.{hash_by}
 use Rattle.owners.proofs.OwnerLemmas.{below}
-use Rattle.owners.proofs.zobrist.Zobrist.hash_board.Given as goal
+use Rattle.owners.proofs.zobrist.hash_board.Given as goal
 
 -- the tiles before this one are hashed
 abbrev pub invariant-tiles : goal.invariant-tiles
-invariant-tiles l = record {
+invariant-tiles g l = record {
   some : 1 ≤ l.tile;
-  hashed : l.hash ≡ hash_from (cell_count l.board.grid) 0 (map (below l.tile) l.board.tiles);
+  hashed : l.hash ≡ hash_by (g.W.Words.word_on (cell_count l.board.grid)) 0 (map (below l.tile) l.board.tiles);
 }
