@@ -13,7 +13,7 @@ _tilesolve() {
     --rows | --cols) words='2 3 4 5' ;;
     --cost) words='unit face' ;;
     --groups) words='none' ;;
-    --spread) words='zobrist blank' ;;
+    --spread) words='zobrist blank abstract' ;;
     --goal | --workers | --limit | --width | --seconds | --count | --seed | --moves) ;;
     tilesolve | */tilesolve) words='solve check show upgrade replay boards --help --version' ;;
     *)

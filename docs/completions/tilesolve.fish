@@ -20,7 +20,7 @@ complete -c tilesolve -n $search -x -l cost -a 'unit face' -d 'Cost of a move'
 complete -c tilesolve -n $search -x -l groups -a none -d 'Groups of tiles, each with a pattern database'
 complete -c tilesolve -n $search -l fold -d 'Fold the pattern databases'
 complete -c tilesolve -n $search -x -l workers -d 'Number of workers'
-complete -c tilesolve -n $search -x -l spread -a 'zobrist blank' -d 'How boards are divided among workers'
+complete -c tilesolve -n $search -x -l spread -a 'zobrist blank abstract' -d 'How boards are divided among workers'
 complete -c tilesolve -n $search -x -l limit -d 'Maximum number of boards to expand for each line'
 
 set -l solve '__fish_seen_subcommand_from solve'

@@ -232,8 +232,9 @@ pub(crate) const WORKERS: &str =
 pub(crate) const REPLAYED_WORKERS: &str = "Number of workers that share the board, 1 to 16";
 
 /// The option `--spread`.
-pub(crate) const SPREAD: &str =
-    "How boards are divided among workers: by a hash of all tiles, or by the blank's cell";
+pub(crate) const SPREAD: &str = "\
+How boards are divided among workers: by a hash of all tiles, by the blank's cell, or, mostly the
+fastest, by a hash of every fourth tile";
 
 /// The option `--limit`.
 pub(crate) const LIMIT: &str = "Maximum number of boards to expand for each line, 0 or more";

@@ -12,7 +12,7 @@ use cases::{CASES, RUN_START, RUNS, Run};
 use hda_run::{Job, WorldFault, run_and_finish};
 use lower_bound::Bound;
 use outcomes::Outcome;
-use owners::{ByBlank, Spread, Zobrist};
+use owners::{Abstract, ByBlank, Spread, Zobrist};
 use std::alloc::Global;
 use std::io::{self, ErrorKind, Print};
 use test_worlds::{ByRow, Division};
@@ -53,6 +53,7 @@ fn answer(alloc: Global, run: &Run) -> Option<Result<Outcome, WorldFault>> {
     Some(match run.division {
         Division::ByBlank => answer_by(alloc, job, run, &ByBlank),
         Division::ByHash => answer_by(alloc, job, run, &Zobrist::new(shape)),
+        Division::ByTiles => answer_by(alloc, job, run, &Abstract::new(shape)),
         Division::ByRow => answer_by(alloc, job, run, &ByRow),
     })
 }

@@ -45,8 +45,8 @@ pub fn run_replay<R: Threads + Sync, S: Source, K: Sink>(
         }
         SpreadKind::Blank => replay_spread(alloc, source, sink, setup, &ByBlank),
         SpreadKind::Abstract => {
-            let spread = Abstract::new(setup.shape());
-            replay_spread(alloc, source, sink, setup, &spread)
+            let by_tiles = Abstract::new(setup.shape());
+            replay_spread(alloc, source, sink, setup, &by_tiles)
         }
     }
 }

@@ -10,7 +10,7 @@ use board::Board;
 use incumbent::Best;
 use message_ledger::{Allowance, Capped, Counting, Credit, Grants, Packet, Plain, Purse, Shares};
 use outcomes::Want;
-use owners::{ByBlank, Spread, Zobrist};
+use owners::{Abstract, ByBlank, Spread, Zobrist};
 use quiescence::Book;
 use search_keys::KeyedBoard;
 use std::marker::Brand;
@@ -203,19 +203,35 @@ fn amounts_and_best_costs(rt: HostRuntime) {
     assert!(rt; stop_by_list() == (Some(Stop::Memory(Want::Stated)), Some(5)));
 }
 
-// The sides and the numbers of a board, and its owners among 2, 3, 7 and 16 workers by its hash and
-// by its blank. The hashes were computed by another program, from the words of SplitMix64.
-type OwnerRow = (u8, u8, &'static [u8], [usize; 4], [usize; 4]);
+// The sides and the numbers of a board, and its owners among 2, 3, 7 and 16 workers: by its hash,
+// by its blank, and by the hash of every fourth tile. The hashes were computed by another program,
+// from the words of SplitMix64.
+type OwnerRow = (u8, u8, &'static [u8], [usize; 4], [usize; 4], [usize; 4]);
 
 static OWNERS: [OwnerRow; 4] = [
-    (2, 2, &[3, 2, 1, 0], [0, 2, 1, 6], [1, 0, 3, 3]),
-    (2, 3, &[2, 3, 5, 0, 1, 4], [1, 2, 1, 9], [1, 0, 3, 3]),
+    (
+        2,
+        2,
+        &[3, 2, 1, 0],
+        [0, 2, 1, 6],
+        [1, 0, 3, 3],
+        [1, 1, 2, 15],
+    ),
+    (
+        2,
+        3,
+        &[2, 3, 5, 0, 1, 4],
+        [1, 2, 1, 9],
+        [1, 0, 3, 3],
+        [1, 2, 6, 11],
+    ),
     (
         4,
         4,
         &[14, 13, 15, 7, 11, 12, 9, 5, 6, 0, 2, 1, 4, 8, 10, 3],
         [0, 0, 6, 10],
         [1, 0, 2, 9],
+        [1, 1, 6, 5],
     ),
     (
         5,
@@ -226,6 +242,7 @@ static OWNERS: [OwnerRow; 4] = [
         ],
         [0, 2, 2, 10],
         [1, 2, 4, 11],
+        [0, 1, 2, 0],
     ),
 ];
 
@@ -258,15 +275,17 @@ fn expect_owners<S: Spread>(rt: &impl Abort, spread: &S, board: &Board, owners: 
 
 #[test]
 fn owners_of_boards(rt: HostRuntime) {
-    for (rows, cols, tiles, by_hash, by_blank) in &OWNERS {
+    for (rows, cols, tiles, by_hash, by_blank, by_tiles) in &OWNERS {
         let shape = shape_of(&rt, *rows, *cols);
         let board = board_of(&rt, shape, tiles);
         let zobrist = Zobrist::new(shape);
         expect_owners(&rt, &zobrist, &board, by_hash);
         expect_owners(&rt, &ByBlank, &board, by_blank);
+        expect_owners(&rt, &Abstract::new(shape), &board, by_tiles);
         // Owners by hash need the hash of the board before. Owners by the blank need none.
         let keyed = KeyedBoard::new(&board);
         assert!(rt; zobrist.hash(&keyed).is_some());
+        assert!(rt; Abstract::new(shape).hash(&keyed).is_some());
         assert!(rt; ByBlank.hash(&keyed).is_none());
     }
 }

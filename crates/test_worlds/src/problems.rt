@@ -28,22 +28,30 @@ pub enum Division {
     ByBlank,
     /// By the hash of the whole board.
     ByHash,
+    /// By the hash of every fourth tile.
+    ByTiles,
     /// By whether the blank is in the last row: by no hash modulo the number of workers.
     ByRow,
 }
 
 impl Division {
     /// By a hash: the ways that the program offers.
-    pub const HASHED: [Division; 2] = [Division::ByBlank, Division::ByHash];
+    pub const HASHED: [Division; 3] = [Division::ByBlank, Division::ByHash, Division::ByTiles];
 
     /// Each way.
-    pub const ALL: [Division; 3] = [Division::ByBlank, Division::ByHash, Division::ByRow];
+    pub const ALL: [Division; 4] = [
+        Division::ByBlank,
+        Division::ByHash,
+        Division::ByTiles,
+        Division::ByRow,
+    ];
 
     /// The word for it.
     pub fn word(self) -> &'static str {
         match self {
             Division::ByBlank => "blank",
             Division::ByHash => "hash",
+            Division::ByTiles => "tiles",
             Division::ByRow => "row",
         }
     }

@@ -11,7 +11,7 @@ use certificate_check::check;
 use hda_run::{Gate, Job, WorldFault, is_worker_count};
 use lower_bound::Bound;
 use outcomes::{Cause, Ending, Outcome};
-use owners::{ByBlank, Spread, Zobrist};
+use owners::{Abstract, ByBlank, Spread, Zobrist};
 use std::alloc::Global;
 use std::sync::Wait;
 use std::thread::Threads;
@@ -34,6 +34,10 @@ pub fn answer_with_rows<R: Threads + Wait + Sync, G: Gate + Sync>(
         Division::ByBlank => solve_by(rt, alloc, problem, bound, team.workers, &ByBlank, gate),
         Division::ByHash => {
             let spread = Zobrist::new(problem.goal.shape());
+            solve_by(rt, alloc, problem, bound, team.workers, &spread, gate)
+        }
+        Division::ByTiles => {
+            let spread = Abstract::new(problem.goal.shape());
             solve_by(rt, alloc, problem, bound, team.workers, &spread, gate)
         }
         Division::ByRow => solve_by(rt, alloc, problem, bound, team.workers, &ByRow, gate),
@@ -60,6 +64,10 @@ pub fn answer_without_rows<R: Threads + Wait + Sync, G: Gate + Sync>(
             let spread = Zobrist::new(problem.goal.shape());
             end_by(rt, alloc, problem, bound, team.workers, &spread, gate)
         }
+        Division::ByTiles => {
+            let spread = Abstract::new(problem.goal.shape());
+            end_by(rt, alloc, problem, bound, team.workers, &spread, gate)
+        }
         Division::ByRow => end_by(rt, alloc, problem, bound, team.workers, &ByRow, gate),
     }
 }
@@ -83,6 +91,10 @@ pub fn answer_of_threads<R: Threads + Wait + Sync, G: Gate + Sync>(
         Division::ByBlank => find_by(rt, alloc, problem, bound, team.workers, &ByBlank, gate),
         Division::ByHash => {
             let spread = Zobrist::new(problem.goal.shape());
+            find_by(rt, alloc, problem, bound, team.workers, &spread, gate)
+        }
+        Division::ByTiles => {
+            let spread = Abstract::new(problem.goal.shape());
             find_by(rt, alloc, problem, bound, team.workers, &spread, gate)
         }
         Division::ByRow => find_by(rt, alloc, problem, bound, team.workers, &ByRow, gate),

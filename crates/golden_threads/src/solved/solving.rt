@@ -8,7 +8,7 @@ use board::{Board, Move, Shape, Weights};
 use hda_run::{Free, Job, read_one, solve_one};
 use lower_bound::Bound;
 use outcomes::{Ending, Outcome};
-use owners::{ByBlank, Spread, Zobrist};
+use owners::{Abstract, ByBlank, Spread, Zobrist};
 use std::alloc::Global;
 use std::io::{self, ErrorKind, Print};
 use test_worlds::{ByRow, Division, Problem, Shown, bound_of};
@@ -115,6 +115,7 @@ fn solved(
     match division {
         Division::ByBlank => solved_by(alloc, job, &ByBlank, shown),
         Division::ByHash => solved_by(alloc, job, &Zobrist::new(problem.goal.shape()), shown),
+        Division::ByTiles => solved_by(alloc, job, &Abstract::new(problem.goal.shape()), shown),
         Division::ByRow => solved_by(alloc, job, &ByRow, shown),
     }
 }
@@ -136,6 +137,7 @@ fn ended(alloc: Global, problem: &Problem, bound: &Bound, division: Division) ->
     match division {
         Division::ByBlank => ended_by(alloc, job, &ByBlank),
         Division::ByHash => ended_by(alloc, job, &Zobrist::new(problem.goal.shape())),
+        Division::ByTiles => ended_by(alloc, job, &Abstract::new(problem.goal.shape())),
         Division::ByRow => ended_by(alloc, job, &ByRow),
     }
 }
