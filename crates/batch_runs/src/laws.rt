@@ -6,6 +6,10 @@ ghost use Rattle.batch_runs.specs.Laws.{BatchLinesAreLostToFailures, OutputsAreA
 ghost use Rattle.batch_runs.specs.Laws.{FailedWritesAreTold, ReportsAreNamed};
 ghost use Rattle.batch_runs.specs.Laws.{OptimalReportsAreLeast, UnsolvableReportsHaveNoPlan};
 ghost use Rattle.batch_runs.specs.Laws.{BoundedReportsAreBelow};
+ghost use Rattle.batch_runs.specs.Setups.{owner_by};
+ghost use Rattle.batch_runs.specs.declared.setup.SpreadKind.TheVariants.{Zobrist, Blank, Abstract};
+ghost use Rattle.owners.specs.Owners.{owner_by_hash, owner_by_blank, owner_by_abstract_hash};
+ghost use Rattle.std.specs.Prelude.{◌≡◌};
 
 use crate::answering::Ruled;
 
@@ -61,4 +65,12 @@ pub fn reports_tell_of_plans()
     ensures unsolvable { UnsolvableReportsHaveNoPlan }
     ensures bounded { BoundedReportsAreBelow }
     ensures named { ReportsAreNamed }
+{}
+
+/// The kinds of spreads are named after what owns a board: its hash, its blank's cell, or the hash
+/// of every fourth tile.
+pub fn spreads_are_as_named()
+    ensures zobrist { owner_by Zobrist ≡ owner_by_hash }
+    ensures blank { owner_by Blank ≡ owner_by_blank }
+    ensures abstract_hash { owner_by Abstract ≡ owner_by_abstract_hash }
 {}

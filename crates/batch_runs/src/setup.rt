@@ -20,7 +20,7 @@ pub enum SpreadKind {
     Zobrist,
     /// By the cell of the blank.
     Blank,
-    /// By a hash of every fourth tile.
+    /// By a hash of every fourth tile, from tile 1 on.
     Abstract,
 }
 

@@ -33,8 +33,9 @@
 //!                                               the lines on standard input, answered for boards
 //!                                               of this shape with Korf's goal and unit costs, by
 //!                                               the count of workers (1), over which they are
-//!                                               spread by `zobrist` or by `blank`; with whole
-//!                                               tables or, where TABLES is `fold`, folded ones
+//!                                               spread by `zobrist`, `blank` or `abstract`;
+//!                                               with whole tables or, where TABLES is `fold`,
+//!                                               folded ones
 //!     bench_searches threads SEED COUNT         this many boards, drawn by this seed, by workers
 //!                                               in threads
 //!

@@ -124,9 +124,10 @@ fn walk_of(drawing: &mut Drawing) -> Option<Walk> {
         0 => Costs::Unit,
         _ => Costs::Face,
     };
-    let division = match drawing.number(2) {
+    let division = match drawing.number(3) {
         0 => Division::ByBlank,
-        _ => Division::ByHash,
+        1 => Division::ByHash,
+        _ => Division::ByTiles,
     };
     let workers = drawing.number(15) as usize + 2;
     let shape = Shape::new(side, side).ok()?;

@@ -38,15 +38,15 @@ struct Kept {
     runs: u64,
 }
 
-/// Prints how many runs of each count of workers find the cost, by both spreads.
+/// Prints how many runs of each count of workers find the cost, by each spread.
 pub fn print_counts<R: Threads + Wait + Print + AllocGlobal + Sync>(rt: &R) -> io::Result<()> {
     println!(rt; "# {FAR_START:?} at unit cost, without tables")?;
     for workers in WORKERS {
-        print_both(rt, workers, &[], 1)?;
+        print_each(rt, workers, &[], 1)?;
     }
     println!(rt; "# The same with tables, {RUNS} runs each")?;
     for workers in 1..17 {
-        print_both(rt, workers, &FAR_GROUPS, RUNS)?;
+        print_each(rt, workers, &FAR_GROUPS, RUNS)?;
     }
     print_kept(rt)
 }
@@ -65,7 +65,7 @@ fn print_kept_count(rt: &impl Print, count: Kept) -> io::Result<()> {
 }
 
 // The same of these workers, whom tables of these groups guide, in this many runs.
-fn print_both<R: Threads + Wait + Print + AllocGlobal + Sync>(
+fn print_each<R: Threads + Wait + Print + AllocGlobal + Sync>(
     rt: &R,
     workers: usize,
     groups: &[&[u8]],

@@ -27,7 +27,7 @@ pub fn print_runs<R: Threads + Wait + Print + AllocGlobal + Sync>(rt: &R) -> io:
     delays::print_runs(rt)
 }
 
-// Prints whether a limit bounds the runs of one worker, of four and of sixteen, by both spreads.
+// Prints whether a limit bounds the runs of one worker, of four and of sixteen, by each spread.
 // Where the workers' answer is dropped and one of them searches anew, more boards are expanded than
 // the limit.
 fn print_large<R: Threads + Wait + Print + AllocGlobal + Sync>(rt: &R) -> io::Result<()> {

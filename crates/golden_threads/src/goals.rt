@@ -34,7 +34,7 @@ struct Count {
     right: u64,
 }
 
-/// Prints of how many goals up to three moves away 2 to 16 workers find the cost, by both spreads.
+/// Prints of how many goals up to three moves away 2 to 16 workers find the cost, by each spread.
 pub fn print_counts<R: Threads + Wait + Print + AllocGlobal + Sync>(rt: &R) -> io::Result<()> {
     println!(rt; "# Goals 1 to {FARTHEST} moves away at unit cost, workers 2 to {MOST_WORKERS}")?;
     for tiles in &STARTS {

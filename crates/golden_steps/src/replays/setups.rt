@@ -25,7 +25,7 @@ struct Words<'a> {
 ///
 /// `--rows` and `--cols` are needed. `--cost` is `unit` or `face`, `--goal` has tiles with commas
 /// between, `--groups` is `none` or one group of such tiles, `--workers` and `--limit` are numbers,
-/// and `--spread` is `zobrist` or `blank`.
+/// and `--spread` is `zobrist`, `blank` or `abstract`.
 pub fn setup_of(alloc: Global, text: &str) -> Option<Setup> {
     let words = words_of(text)?;
     let limit = limit_of(words.limit)?;

@@ -17,12 +17,13 @@ const TURNS: u32 = 1000;
 
 static WORKERS: [usize; 4] = [2, 3, 4, 16];
 
-/// Prints what is answered where the first worker is slow, and where the last is, by both spreads.
+/// Prints what is answered where the first worker is slow, and where the last is, by each spread.
 pub fn print_runs<R: Threads + Wait + Print + AllocGlobal + Sync>(rt: &R) -> io::Result<()> {
     println!(rt; "# {FAR_START:?} at unit cost, with tables for {FAR_GROUPS:?}")?;
     for workers in &WORKERS {
-        print_run(rt, *workers, Division::ByBlank)?;
-        print_run(rt, *workers, Division::ByHash)?;
+        for division in &Division::HASHED {
+            print_run(rt, *workers, *division)?;
+        }
     }
     Ok(())
 }
