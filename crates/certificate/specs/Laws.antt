@@ -99,7 +99,7 @@ FaultsShowLast =
     → ReadsCertificate source (Err (Format fault))
     → ((fault ≡ Truncated) × (left ≡ [])) ⊎ ((fault ≢ Truncated) × ((before : List ℕ) × (byte : ℕ) × (bytes ≡ before ++ byte ∷ []) × HasNoFault certificate before))
 
--- it is answered that reading failed exactly where the source has failed
+-- the answer is that reading failed exactly where the source has failed
 abbrev pub FailuresAreOfTheSource : Type 0
 FailuresAreOfTheSource =
     (source : Change SourceState) (result : Result CertificateModel ReadFault) → ReadsCertificate source result → (result ≡ Err Failed) ↔ (source.after.has_failed ≡ true)

@@ -23,7 +23,7 @@ AreWords words = (k : ℕ) → k < length words → slice_index words k ≡ word
 abbrev pub word_on : ℕ → ℕ → ℕ → ℕ
 word_on cells tile cell = if tile == 0 then 0 else word ((tile - 1) * cells + cell)
 
--- the exclusive or of the words of tiles, the first of them on this cell; each word is by the tile and its cell
+-- the exclusive or of the words of tiles, the first of them on this cell; `word_of` has the word of a tile on a cell
 abbrev pub hash_by : (ℕ → ℕ → ℕ) → ℕ → List ℕ → ℕ
 hash_by word_of cell [] = 0
 hash_by word_of cell (tile ∷ tiles) = bit_xor (word_of tile cell) (hash_by word_of (cell + 1) tiles)
@@ -32,11 +32,11 @@ hash_by word_of cell (tile ∷ tiles) = bit_xor (word_of tile cell) (hash_by wor
 abbrev pub hash_of : BoardModel → ℕ
 hash_of b = hash_by (word_on (cell_count b.grid)) 0 b.tiles
 
--- the word of a tile where only every fourth tile counts, from tile 1 on: the others have none
+-- the word of a tile where tiles 1, 5, 9, .. alone count, and the others have none (a case of abstract Zobrist hashing, Jinnai and Fukunaga 2017)
 abbrev pub abstract_word_on : ℕ → ℕ → ℕ → ℕ
 abstract_word_on cells tile cell = if tile % 4 == 1 then word_on cells tile cell else 0
 
--- the hash of the tiles that count alone
+-- the hash of a board by the tiles that count
 abbrev pub abstract_hash_of : BoardModel → ℕ
 abstract_hash_of b = hash_by (abstract_word_on (cell_count b.grid)) 0 b.tiles
 

@@ -1,15 +1,18 @@
 -- Words, hashes and owners that are known.
 use Rattle.std.specs.Prelude.{ℕ, ◌≡◌, List, [], ◌∷◌}
 use Rattle.board.specs.Boards.{BoardModel, goal_of}
-use Rattle.owners.specs.Owners.{word, hash_of, owner_by_blank, owner_by_hash, owner_by_abstract_hash}
+use Rattle.owners.specs.Owners.{word, hash_of, abstract_hash_of, owner_by_blank, owner_by_hash, owner_by_abstract_hash}
 
 -- the first words of SplitMix64 from eight zero bytes on
 abbrev pub FirstWords : Type 0
 FirstWords = (word 0 ≡ 16294208416658607535) × (word 1 ≡ 7960286522194355700) × (word 2 ≡ 487617019471545679)
 
--- the hashes of the goals of 3 by 3 and of 2 by 3
-abbrev pub GoalHashes : Type 0
-GoalHashes = (hash_of (goal_of (record { rows = 3; cols = 3 })) ≡ 8092573467260377517) × (hash_of (goal_of (record { rows = 2; cols = 3 })) ≡ 15528752151008016516)
+-- the hashes and the abstract hashes of the goals of 3 by 3 and of 2 by 3
+pub record GoalHashes : Type 0 where
+  pub of_3_by_3 : hash_of (goal_of (record { rows = 3; cols = 3 })) ≡ 8092573467260377517
+  pub of_2_by_3 : hash_of (goal_of (record { rows = 2; cols = 3 })) ≡ 15528752151008016516
+  pub abstract_of_3_by_3 : abstract_hash_of (goal_of (record { rows = 3; cols = 3 })) ≡ 9022943145368227898
+  pub abstract_of_2_by_3 : abstract_hash_of (goal_of (record { rows = 2; cols = 3 })) ≡ 9235338093554589062
 
 -- a board of 2 by 2 and one of 5 by 5, each with the blank on its last cell
 abbrev small : BoardModel

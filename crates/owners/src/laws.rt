@@ -7,8 +7,8 @@ ghost use Rattle.owners.specs.Owners.{abstract_hash_of, owner_by_abstract_hash};
 use crate::spread::{ByBlank, Spread};
 use crate::zobrist::{Abstract, Zobrist};
 
-/// `Zobrist` divides boards by their hashes, `Abstract` by those of every fourth tile, and `ByBlank`
-/// by the cells of their blanks.
+/// `Zobrist` divides boards by their hashes, `Abstract` by those of every fourth tile from tile 1 on,
+/// and `ByBlank` by the cells of their blanks.
 pub fn spreads_are_as_named()
     ensures zobrist { ⟦<Zobrist as Spread>⟧.owner_of ≡ λ spread. owner_by_hash }
     ensures hash { ⟦<Zobrist as Spread>⟧.hash_of ≡ λ spread b. Some (hash_of b) }

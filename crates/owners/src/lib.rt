@@ -3,7 +3,7 @@
 //! - A `Spread` says which worker owns a board: any function of the spread, the number of workers
 //!   and the board.
 //! - `Zobrist`: the exclusive or of a word for each tile and cell (Zobrist 1970), words from
-//!   `SplitMix64`. `Abstract`: of every fourth tile alone. `ByBlank`: the blank's cell.
+//!   `SplitMix64`. `Abstract`: of tiles 1, 5, 9, .. alone. `ByBlank`: the blank's cell.
 //! - `owner_after` finds a successor's owner from its parent's hash, which changes by two words. By
 //!   default it asks `owner_by_key`, which finds the owner of a board by its search key, for the
 //!   successor.

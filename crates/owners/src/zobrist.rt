@@ -1,6 +1,6 @@
 //! Owners by a hash of the board, of all tiles or of some.
 
-ghost use Rattle.std.specs.Prelude.{◌≡◌, ◌<◌, ◌≤◌, ◌%◌, ℕ, slice_index, length, Some};
+ghost use Rattle.std.specs.Prelude.{◌≡◌, ◌<◌, ◌≤◌, ℕ, slice_index, length};
 ghost use Rattle.board.specs.Boards.{BoardModel};
 ghost use Rattle.board.specs.Shapes.{cell_count};
 ghost use Rattle.owners.specs.Owners.{hash_by, word};

@@ -73,7 +73,7 @@ TakesMemory (Halt i cause) = ⊥
 abbrev pub IsFirm : Option Refusal → Type 0
 IsFirm answer = (answer ≢ Some NoRoom) × ((refused : OutOfMemory) → answer ≢ Some (Memory refused))
 
--- an answer is firm unless it is one of these
+-- an answer is firm unless it is `NoRoom` or a refusal of memory
 abbrev pub OtherAnswersAreFirm : Type 0
 OtherAnswersAreFirm = (answer : Option Refusal) → answer ≢ Some NoRoom → ((refused : OutOfMemory) → answer ≢ Some (Memory refused)) → IsFirm answer
 
