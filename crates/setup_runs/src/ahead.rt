@@ -29,14 +29,12 @@ const FEWEST_SMALL: usize = 16;
 
 const FEWEST_BOARDS: usize = 2;
 
-// The most boards that are solved before the first of their reports is written: small ones, and
-// others for each worker.
-const MOST_SMALL: usize = 4096;
-
-const MOST_FOR_EACH: usize = 4;
-
 // The most lines that are looked at ahead.
 const MOST_LINES: u32 = 4096;
+
+// After this many expansions a thread takes no other board, so that reports come each second or so
+// where boards are solved in less time.
+const ENOUGH_EXPANDED: u64 = 2_000_000;
 
 /// A board with its ending and figures, and its place among those that are solved with it.
 #[derive(Drop)]
@@ -57,16 +55,15 @@ pub(crate) fn boards_ahead(
     ensures { IfSome result
         (λ boards. All (HasSides question.now.setup.now.goal.grid) boards.items) }
 {
-    let workers = question.setup.worker_count();
-    if workers == 1 {
+    if question.setup.worker_count() == 1 {
         return None;
     }
-    let (fewest, most) = if question.setup.shape().cells() <= SMALL_CELLS {
-        (FEWEST_SMALL, MOST_SMALL)
+    let fewest = if question.setup.shape().cells() <= SMALL_CELLS {
+        FEWEST_SMALL
     } else {
-        (FEWEST_BOARDS, workers.saturating_mul(MOST_FOR_EACH))
+        FEWEST_BOARDS
     };
-    let boards = boards_among(alloc, question.start, whole_lines(held), most);
+    let boards = boards_among(alloc, question.start, whole_lines(held));
     if boards.len() < fewest {
         return None;
     }
@@ -129,30 +126,27 @@ fn whole_lines(held: &[u8]) -> &[u8] {
     &[]
 }
 
-// A board and those of its shape that lines name, in their order and at most this many; not all of
-// them where memory is refused.
-fn boards_among(alloc: Global, start: &Board, lines: &[u8], most: usize) -> Vec<Board>
+// A board and those of its shape that the first lines name, in their order; not all of them where
+// memory is refused.
+fn boards_among(alloc: Global, start: &Board, lines: &[u8]) -> Vec<Board>
     ensures { All (HasSides start.now.grid) result.items }
 {
     let mut boards = Vec::new(alloc);
     if let Ok(()) = push(&mut boards, *start) {
-        add_boards(&mut boards, start.shape(), lines, most);
+        add_boards(&mut boards, start.shape(), lines);
     }
     boards
 }
 
-// Adds the boards of a shape that lines name, in their order, until there are this many; not all of
-// them where memory is refused.
-fn add_boards(boards: &mut Vec<Board>, shape: Shape, lines: &[u8], most: usize)
+// Adds the boards of a shape that the first lines name, in their order; not all of them where memory
+// is refused.
+fn add_boards(boards: &mut Vec<Board>, shape: Shape, lines: &[u8])
     requires { All (HasSides shape) boards.old.items }
     ensures { All (HasSides shape) boards.new.items }
 {
     let mut reader = LineReader::new();
     let mut source = ByteSource::new(lines);
     'lines: for _ in 0..MOST_LINES {
-        if most <= boards.len() {
-            return;
-        }
         let Ok(Some(line)) = reader.next_line(&mut source) else {
             return;
         };
@@ -211,13 +205,17 @@ fn end_boards<R: Threads + Wait + Sync, W: Watch + Sync>(
     );
 }
 
-// Solves one board after the other, each the first that no thread has taken, and adds it to a lane.
-// Where memory is refused no thread takes another one.
+// Solves one board after the other, each the first that no thread has taken, and adds it to a lane,
+// until enough boards were expanded. Where memory is refused no thread takes another one.
 fn end_in_turn<R: Wait, W: Watch>(shared: &Shared<'_, R, W>, lane: &mut Vec<Ended>)
     requires { AreEnded shared.now.setup.now lane.old }
     ensures { AreEnded shared.now.setup.now lane.new }
 {
+    let mut expanded = 0;
     'boards: for _ in 0..shared.boards.len() {
+        if expanded >= ENOUGH_EXPANDED {
+            return;
+        }
         let place = take_next(shared.rt, &shared.next);
         if place >= shared.boards.len() {
             return;
@@ -231,6 +229,7 @@ fn end_in_turn<R: Wait, W: Watch>(shared: &Shared<'_, R, W>, lane: &mut Vec<Ende
             *shared.next.lock(shared.rt) = shared.boards.len();
             return;
         };
+        expanded += solved.stats.expanded;
         let ended = Ended {
             place,
             board,

@@ -122,6 +122,22 @@ pub(crate) fn answer_board<A: TellsBounds, R: Threads + Wait + Sync, G: Gate + S
     if let Some(answer) = answer_easy::<A, ByBlank, G>(alloc, question, &ByBlank, gate) {
         return Ok(answer);
     }
+    answer_shared::<A, R, G>(rt, alloc, question, gate)
+}
+
+// The answer of a board that all workers share, by the setup's spread. (It is never inlined: its
+// caller would clear the words of each spread for each board, also where one worker solves it.)
+#[inline(never)]
+fn answer_shared<A: TellsBounds, R: Threads + Wait + Sync, G: Gate + Sync>(
+    rt: &R,
+    alloc: Global,
+    question: &Question<'_>,
+    gate: &G,
+) -> Result<A::Answer, OutOfMemory>
+    ensures { IsSearched A.gives A.answers A.end A.parity question.now.setup.now
+        question.now.start.now result }
+{
+    let setup = question.setup;
     match setup.spread_kind() {
         SpreadKind::Zobrist => {
             let spread = Zobrist::new(setup.shape());

@@ -665,7 +665,7 @@ const MANY_LINES: &[u8] = b"a 1 0 2 3\nb 1 3 2 0\nc 1 3 0 2\n# d 1 0 2 3\ne 2 1 
     g 0 1 2 3\nh 2 1 0 3\ni 1 0 2 3\nj 1 3 2 0\nk 1 3 0 2\nl 0 1 2 3\nm 1 0 2 3\nn 1 3 2 0\n\
     o 1 3 0 2\np 0 1 2 3\nq 1 0 2 3\nr 1 3 2 0\ns 1 3 0 2\nt 0 1 2 3\nu 1 0 2 3";
 
-// Lines of boards of 2 by 5, more than three workers take at once.
+// Lines of boards of 2 by 5, as many as several workers solve side by side.
 const LARGER_LINES: &[u8] = b"a 1 0 2 3 4 5 6 7 8 9\nb 1 6 2 3 4 5 0 7 8 9\n\
     c 1 6 2 3 4 0 5 7 8 9\nd 0 2 1 3 4 5 6 7 8 9\ne 0 6 2 3 4 1 5 7 8 9\nf 1 0\n# g\n\
     h 0 1 2 3 4 5 6 7 8 9\ni 1 2 0 3 4 5 6 7 8 9\nj 1 2 3 0 4 5 6 7 8 9\n\
