@@ -14,3 +14,7 @@ sink_has_failed sink = sink.has_failed
 -- what it holds, by the writer's contents
 abbrev pub byte_sink_state : {W : Type 0} → (W → Option (List ℕ)) → ByteSink W → SinkState
 byte_sink_state contents sink = record { contents = contents sink.writer; has_failed = sink.has_failed }
+
+-- the writer is as a flush left it
+abbrev pub WasFlushed : {W : Type 0} → (W → W → Type 0) → ByteSink W → Type 0
+WasFlushed {W} flushes sink = (before : W) × flushes before sink.writer

@@ -5,6 +5,34 @@ ghost use Rattle.byte_streams.specs.Laws.{FailuresTakeNone, AnswersTellFailures,
 ghost use Rattle.byte_streams.specs.Laws.{PutsTellFailures, FlushesTellFailures};
 ghost use Rattle.byte_streams.specs.Laws.{PutsAddBytes, FlushesAddNone};
 ghost use Rattle.byte_streams.specs.Laws.{PutFailuresLast, FlushFailuresLast};
+ghost use Rattle.byte_streams.specs.Buffered.{buffered_state};
+ghost use Rattle.byte_streams.specs.ByteSink.{byte_sink_state, WasFlushed};
+ghost use Rattle.byte_streams.specs.ByteSource.{byte_source_state};
+ghost use Rattle.byte_streams.specs.declared.sink.ByteSink.{ByteSink};
+ghost use Rattle.std.specs.Prelude.{◌≡◌, ◌↔◌};
+
+use crate::buffered::BufferedSource;
+use crate::reader::Reader;
+use crate::sink::{ByteSink, Sink};
+use crate::source::{ByteSource, Source};
+use crate::writer::Writer;
+use std::io::{Read, Write};
+
+/// What is left of a source is what is left of its reader, behind the bytes that it holds; what a
+/// sink holds is what its writer does, and it is flushed where the writer is as a flush left it.
+pub fn streams_are_those_of_readers_and_writers<R: Reader, W: Writer>()
+    ensures source { ⟦<ByteSource<R> as Source>⟧.state ≡ byte_source_state R.left }
+    ensures buffered { ⟦<BufferedSource<R> as Source>⟧.state ≡ buffered_state R.left }
+    ensures sink { ⟦<ByteSink<W> as Sink>⟧.state ≡ byte_sink_state W.contents }
+    ensures flushed { (sink : ByteSink W)
+        → ⟦<ByteSink<W> as Sink>⟧.is_flushed sink ↔ WasFlushed W.flushes sink }
+{}
+
+/// What is left of a reader of std, and what a writer of std holds, is what std says.
+pub fn known_bytes_are_those_of_std<R: Read, W: Write>()
+    ensures left { ⟦<R as Reader>⟧.left ≡ R.remaining }
+    ensures contents { ⟦<W as Writer>⟧.contents ≡ W.contents }
+{}
 
 /// Where bytes are known to be left, the end is not answered.
 pub fn ends_are_true()

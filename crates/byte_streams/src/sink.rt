@@ -6,6 +6,7 @@ ghost use Rattle.std.specs.Io.KnownBytes.{Appends, Keeps};
 ghost use Rattle.byte_streams.specs.Streams.{SinkState, change};
 ghost use Rattle.byte_streams.specs.Sink.{Writes, Flushes, AreTaken, StopsAtFailure};
 ghost use Rattle.byte_streams.specs.ByteSink.{inner_writer, sink_has_failed, byte_sink_state};
+ghost use Rattle.byte_streams.specs.ByteSink.{WasFlushed};
 
 use crate::writer::Writer;
 use thiserror::Error;
@@ -75,7 +76,7 @@ impl<W: Writer> ByteSink<W> {
 impl<W: Writer> Sink for ByteSink<W> {
     ghost state = { byte_sink_state W.contents };
 
-    ghost is_flushed = { λ sink. (before : W) × W.flushes before (inner_writer sink) };
+    ghost is_flushed = { WasFlushed W.flushes };
 
     fn put(&mut self, bytes: &[u8]) -> Result<(), WriteFailed>
         ensures writes { Writes (change (byte_sink_state W.contents) self.old self.new)

@@ -1,13 +1,14 @@
 -- Buckets where one changes.
 use Rattle.std.proofs.Common.{◌≡◌, ◌≢◌, ℕ, ◌+◌, ◌-◌, ◌<◌, ◌≤◌, ◌∙◌, List, [], ◌∷◌, ◌++◌, length, sym, ap, subst, inl, inr, arith, get_or, length-set}
-use Rattle.std.specs.Prelude.{map, set, take, IsPermutation}
+use Rattle.std.specs.Prelude.{map, set, take, IsPermutation, Contains}
 use Rattle.std.specs.List.Sorted.{IsNonDecreasingBy}
 use Rattle.std.specs.Vec.{vec_len}
 use Rattle.std.specs.declared.vec.Vec.{Vec}
 use Rattle.std.proofs.lemmas.Bool.{cases_eq, cases_lt}
 use Rattle.std.proofs.lemmas.List.{take_more, take_all, get_or-set_same, get_or-set_other, get_or-map, length-map, get_or_past, get_or_append_left, get_or_push, length_push, nil_from_length}
 use Rattle.std.proofs.Math.Seq.{map-set_same}
-use Rattle.open_buckets.specs.OpenLists.{entries_at, places_at, NothingWaits, OthersStay, PutsEntry, TakesEntry, Sorts, IsNextEntry}
+use Rattle.std.proofs.lemmas.List.Sorted.{Contains-permutation, IsPermutation-sym}
+use Rattle.open_buckets.specs.OpenLists.{OpenModel, entries_at, places_at, NothingWaits, OthersStay, PutsEntry, TakesEntry, Sorts, IsNextEntry}
 use Rattle.open_buckets.specs.Buckets.{list_of}
 
 module _ {K Z : Type 0} where
@@ -158,3 +159,24 @@ module _ {K Z : Type 0} where
         last = (take (b.len - 1) b.items, entries_in bs f b lt ∙ ap (λ (v : Vec (K × ℕ) Z). v.items) (sym is) ∙ sym (take_all (length b.items) b.items (omega arith)) ∙ cut ∙ ap (λ x. take (b.len - 1) b.items ++ x ∷ []) (sym read));
         least = before;
       }
+
+-- what is next where the entries at f were put in order
+next_is_last : {K : Type 0} (f : ℕ) (next : K × ℕ) (new : OpenModel K) (is_next : IsNextEntry f next new) (d : K × ℕ) → (get_or (entries_at new f) (length is_next.last.0) d ≡ next) × (length (entries_at new f) ≡ length is_next.last.0 + 1)
+next_is_last f next new is_next d = (ap (λ xs. get_or xs (length is_next.last.0) d) is_next.last.1 ∙ get_or_push is_next.last.0 next d (length is_next.last.0) (λ _. length is_next.last.0), ap length is_next.last.1 ∙ length_push is_next.last.0 next)
+
+pub next_was_there : {K : Type 0} (f : ℕ) (next : K × ℕ) (old new : OpenModel K) → Sorts f old new → IsNextEntry f next new → Contains (entries_at old f) next
+next_was_there f next old new sorts is_next =
+    let last = next_is_last f next new is_next next in
+    let count = last.1 in
+    Contains-permutation (entries_at new f) (entries_at old f) next (IsPermutation-sym (entries_at old f) (entries_at new f) sorts.moved) (length is_next.last.0, omega arith, last.0)
+
+pub none_costs_more : {K : Type 0} (f : ℕ) (next other : K × ℕ) (old new : OpenModel K) → Sorts f old new → IsNextEntry f next new → Contains (entries_at old f) other → other.1 ≤ next.1
+none_costs_more {K} f next other old new sorts is_next found =
+    let last = next_is_last f next new is_next other in
+    let count = last.1 in
+    let there : Contains (entries_at new f) other = Contains-permutation (entries_at old f) (entries_at new f) other sorts.moved found in
+    let below = there.1 in
+    let ordered : (get_or (entries_at new f) there.0 other).1 ≤ (get_or (entries_at new f) (length is_next.last.0) other).1 = sorts.sorted there.0 (length is_next.last.0) other (omega arith) (omega arith) in
+    let here : (get_or (entries_at new f) there.0 other).1 ≡ other.1 = ap (λ (e : K × ℕ). e.1) there.2 in
+    let dearest : (get_or (entries_at new f) (length is_next.last.0) other).1 ≡ next.1 = ap (λ (e : K × ℕ). e.1) last.0 in
+    omega arith

@@ -1,6 +1,6 @@
 -- The laws of open lists.
-use Rattle.std.specs.Prelude.{ℕ, ◌≡◌, ◌≤◌}
-use Rattle.open_buckets.specs.OpenLists.{OpenModel, entries_at, places_at, PutsEntry, TakesEntry, IsNextEntry}
+use Rattle.std.specs.Prelude.{ℕ, ◌≡◌, ◌≤◌, Contains}
+use Rattle.open_buckets.specs.OpenLists.{OpenModel, entries_at, places_at, PutsEntry, Sorts, TakesEntry, IsNextEntry}
 
 -- the entry that is taken is the next one
 abbrev pub TheNextIsTaken : Type 0 → Type 0
@@ -9,3 +9,11 @@ TheNextIsTaken K = (f g : ℕ) (next entry : K × ℕ) (old new : OpenModel K) �
 -- what is taken where something was put is what was put there; then the entries are as before, and no place is lost
 abbrev pub TheLastPutIsTaken : Type 0 → Type 0
 TheLastPutIsTaken K = (f : ℕ) (put taken : K × ℕ) (old between new : OpenModel K) → PutsEntry f put old between → TakesEntry f taken between new → (taken ≡ put) × ((h : ℕ) → (entries_at new h ≡ entries_at old h) × (places_at old h ≤ places_at new h))
+
+-- where the entries at an f were put in order, the next one is one of them
+abbrev pub TheNextWasThere : Type 0 → Type 0
+TheNextWasThere K = (f : ℕ) (next : K × ℕ) (old new : OpenModel K) → Sorts f old new → IsNextEntry f next new → Contains (entries_at old f) next
+
+-- and none of them costs more
+abbrev pub NoneCostsMore : Type 0 → Type 0
+NoneCostsMore K = (f : ℕ) (next other : K × ℕ) (old new : OpenModel K) → Sorts f old new → IsNextEntry f next new → Contains (entries_at old f) other → other.1 ≤ next.1

@@ -2,6 +2,7 @@
 
 ghost use Rattle.std.specs.Prelude.{◌≡◌, ◌+◌, ◌*◌};
 ghost use Rattle.open_buckets.specs.Laws.{TheNextIsTaken, TheLastPutIsTaken};
+ghost use Rattle.open_buckets.specs.Laws.{TheNextWasThere, NoneCostsMore};
 
 use crate::open::GREATEST_F;
 
@@ -14,6 +15,12 @@ pub fn the_next_is_taken<K: Copy>()
 /// no place is lost.
 pub fn the_last_put_is_taken<K: Copy>()
     ensures { TheLastPutIsTaken K }
+{}
+
+/// Where the entries at an f were put in order, the next one is one of them, and none costs more.
+pub fn the_dearest_is_next<K: Copy>()
+    ensures there { TheNextWasThere K }
+    ensures greatest { NoneCostsMore K }
 {}
 
 /// The greatest f is a cost of 1,048,320, a move of weight 255, and 24 values of 65,535.
