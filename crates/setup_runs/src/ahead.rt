@@ -211,7 +211,7 @@ fn end_in_turn<R: Wait, W: Watch>(shared: &Shared<'_, R, W>, lane: &mut Vec<Ende
     requires { AreEnded shared.now.setup.now lane.old }
     ensures { AreEnded shared.now.setup.now lane.new }
 {
-    let mut expanded = 0;
+    let mut expanded = 0u64;
     'boards: for _ in 0..shared.boards.len() {
         if expanded >= ENOUGH_EXPANDED {
             return;
@@ -229,7 +229,7 @@ fn end_in_turn<R: Wait, W: Watch>(shared: &Shared<'_, R, W>, lane: &mut Vec<Ende
             *shared.next.lock(shared.rt) = shared.boards.len();
             return;
         };
-        expanded += solved.stats.expanded;
+        expanded = expanded.saturating_add(solved.stats.expanded);
         let ended = Ended {
             place,
             board,

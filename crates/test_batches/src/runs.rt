@@ -13,7 +13,7 @@ use batch_cli::{
 use board::{Board, Move, Shape, Weights};
 use board_lists::{Choice, list_boards};
 use byte_streams::{BufferedSource, ByteSink, ByteSource, Sink, Source};
-use memory::{OutOfMemory, copy_of, with_capacity};
+use memory::{OutOfMemory, copy_of, push, with_capacity};
 use outcomes::Ending;
 use std::alloc::Global;
 use std::io::ErrorKind;
@@ -672,30 +672,54 @@ const LARGER_LINES: &[u8] = b"a 1 0 2 3 4 5 6 7 8 9\nb 1 6 2 3 4 5 0 7 8 9\n\
     k 1 2 3 4 0 5 6 7 8 9\nl 1 2 3 4 9 5 6 7 8 0\nm 1 2 3 4 9 5 6 7 0 8\n\
     n 1 2 3 4 9 5 6 0 7 8\no 5 1 2 3 4 0 6 7 8 9\np 5 1 2 3 4 6 0 7 8 9\n";
 
-// Lines that are held together, and how many boards may be expanded for each.
+// Lines that are held together, how many times they come, and how many boards may be expanded for
+// each.
 struct Held {
     cols: u8,
     lines: &'static [u8],
+    times: usize,
     limit: u64,
 }
 
-static HELD: [Held; 3] = [
+// The last ones are more than are looked at together, and fewer than a buffer has.
+static HELD: [Held; 4] = [
     Held {
         cols: 2,
         lines: MANY_LINES,
+        times: 1,
         limit: u64::MAX,
     },
     Held {
         cols: 5,
         lines: LARGER_LINES,
+        times: 1,
         limit: u64::MAX,
     },
     Held {
         cols: 5,
         lines: LARGER_LINES,
+        times: 1,
         limit: 2,
     },
+    Held {
+        cols: 2,
+        lines: MANY_LINES,
+        times: 300,
+        limit: u64::MAX,
+    },
 ];
+
+// Lines that come again and again.
+fn repeated(alloc: Global, lines: &[u8], times: usize) -> Option<Vec<u8>> {
+    let mut all = Vec::new(alloc);
+    'times: for _ in 0..times {
+        'bytes: for k in 0..lines.len() {
+            push(&mut all, lines[k]).ok()?;
+        }
+        push(&mut all, b'\n').ok()?;
+    }
+    Some(all)
+}
 
 // What is reported of lines by `workers` workers, where each solves a board alone.
 fn reports_by<R: Threads + Wait + Sync>(
@@ -707,7 +731,8 @@ fn reports_by<R: Threads + Wait + Sync>(
     let shape = Shape::new(2, held.cols).ok()?;
     let plain = Setup::new(alloc, Board::goal(shape), Weights::unit(shape));
     let setup = plain.limit(held.limit).workers(workers).ok()?;
-    reports_with(rt, alloc, held.lines, &setup)
+    let lines = repeated(alloc, held.lines, held.times)?;
+    reports_with(rt, alloc, &lines, &setup)
 }
 
 fn reports_with<R: Threads + Wait + Sync>(
