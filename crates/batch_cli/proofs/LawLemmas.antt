@@ -58,7 +58,7 @@ use Rattle.command_line.specs.declared.faults.NoRequest.TheVariants.{Usage, Goal
 use Rattle.batch_cli.specs.Setups.{AreOptionsFit, IsRequestFit, AreTablesFor, IsSetupOf, IsDefaultSetup}
 use Rattle.batch_cli.specs.declared.faults.BatchFault.{BatchFault}
 use Rattle.batch_cli.specs.declared.endings.Ending.{Ending}
-use Rattle.batch_cli.specs.declared.endings.Ending.TheVariants.{NoTexts, Refused, NoMemory, Ran, Answered, Shown, Faulted}
+use Rattle.batch_cli.specs.declared.endings.Ending.TheVariants.{NoTexts, Refused, NoMemoryToStart, NoMemory, Ran, Answered, Shown, Faulted}
 use Rattle.batch_cli.specs.declared.commands.Command.{Command}
 use Rattle.batch_cli.specs.declared.commands.Command.TheVariants as command
 use Rattle.batch_cli.specs.Endings.{status_of, HasNotBegun, Tells as ReportsEnding}
@@ -208,7 +208,8 @@ unchanged : (ran : Ending) (flushed : Result (Unit {0}) WriteFailed) → status_
 unchanged ran (Ok done) other = refl
 unchanged NoTexts (Err failed) other = absurd (other refl)
 unchanged (Refused refusal) (Err failed) other = absurd (other refl)
-unchanged NoMemory (Err failed) other = absurd (other refl)
+unchanged NoMemoryToStart (Err failed) other = absurd (other refl)
+unchanged (NoMemory refused) (Err failed) other = absurd (other refl)
 unchanged (Ran counts) (Err failed) other = absurd (other refl)
 unchanged (Answered status) (Err failed) other = absurd (other refl)
 unchanged Shown (Err failed) other = absurd (other refl)
@@ -225,7 +226,8 @@ begun_flushed : (ran : Ending) (flushed : Result (Unit {0}) WriteFailed) → ¬ 
 begun_flushed ran (Ok done) begun = begun
 begun_flushed NoTexts (Err failed) begun = λ idle. idle
 begun_flushed (Refused refusal) (Err failed) begun = λ idle. idle
-begun_flushed NoMemory (Err failed) begun = λ idle. idle
+begun_flushed NoMemoryToStart (Err failed) begun = λ idle. idle
+begun_flushed (NoMemory refused) (Err failed) begun = λ idle. idle
 begun_flushed (Ran counts) (Err failed) begun = λ idle. idle
 begun_flushed (Answered status) (Err failed) begun = λ idle. idle
 begun_flushed Shown (Err failed) begun = λ idle. idle

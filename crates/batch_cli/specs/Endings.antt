@@ -6,14 +6,15 @@ use Rattle.batch_runs.specs.Batches.{status_of_counts}
 use Rattle.command_line.specs.Faults.{refusal_status, refusal_message}
 use Rattle.batch_cli.specs.declared.faults.BatchFault.TheVariants.{Read, Write, Memory, GroupsMemory, CertificateRead, CertificateMemory, CertificateWrite}
 use Rattle.batch_cli.specs.declared.endings.Ending.{Ending}
-use Rattle.batch_cli.specs.declared.endings.Ending.TheVariants.{NoTexts, Refused, NoMemory, Ran, Answered, Shown, Faulted}
+use Rattle.batch_cli.specs.declared.endings.Ending.TheVariants.{NoTexts, Refused, NoMemoryToStart, NoMemory, Ran, Answered, Shown, Faulted}
 
 -- 0: each line is optimal or unsolvable, or a text was written, or boards were listed. 1: some line is bounded or refused. 2: the arguments are
 -- no texts, or ask for nothing. 3: a stream failed. 4: memory ran out. A run over one line, one certificate or one replay answers its own status.
 abbrev pub status_of : Ending → ℕ
 status_of NoTexts = 2
 status_of (Refused refusal) = refusal_status refusal
-status_of NoMemory = 4
+status_of NoMemoryToStart = 4
+status_of (NoMemory refused) = 4
 status_of (Ran counts) = status_of_counts counts
 status_of (Answered status) = status
 status_of Shown = 0
@@ -32,7 +33,8 @@ error_line_of text = text ++ 10 ∷ []
 abbrev pub message_of : Ending → List ℕ
 message_of NoTexts = error_line_of (codes "error: invalid UTF-8 was detected in one or more arguments")
 message_of (Refused refusal) = refusal_message refusal
-message_of NoMemory = error_line_of (codes "tilesolve: memory")
+message_of NoMemoryToStart = error_line_of (codes "tilesolve: memory")
+message_of (NoMemory refused) = error_line_of (codes "tilesolve: memory")
 message_of (Ran counts) = []
 message_of (Answered status) = []
 message_of Shown = []
@@ -54,7 +56,8 @@ pub record Tells (errors : Change SinkState) (ending : Ending) (status : ℕ) : 
 abbrev pub HasNotBegun : Ending → Type 0
 HasNotBegun NoTexts = ⊤
 HasNotBegun (Refused refusal) = ⊤
-HasNotBegun NoMemory = ⊤
+HasNotBegun NoMemoryToStart = ⊤
+HasNotBegun (NoMemory refused) = ⊤
 HasNotBegun (Ran counts) = ⊥
 HasNotBegun (Answered status) = ⊥
 HasNotBegun Shown = ⊥

@@ -100,7 +100,7 @@ pub record EndsRun (runs : Change SinkState → Ending → Type 0) (sink : Chang
 
 -- a growth was refused for the tables, before anything was read or written
 abbrev pub LacksTables : Change SourceState → Change SinkState → Ending → Type 0
-LacksTables source sink ending = OutOfMemory × IsUnused source sink × (ending ≡ NoMemory)
+LacksTables source sink ending = (refused : OutOfMemory) × IsUnused source sink × (ending ≡ NoMemory refused)
 
 -- such a run of a setup that the options say, or being out of memory for its tables
 abbrev pub EndsSetup : Options → (SetupModel → Change SinkState → Ending → Type 0) → Change SourceState → Change SinkState → Ending → Type 0
@@ -150,7 +150,7 @@ ServesRequest request command = (source : Change SourceState) (sink : Change Sin
 
 -- what is requested ends without memory, where nothing is read or written
 abbrev pub EndsWithoutMemory : Request → OutOfMemory → Type 0
-EndsWithoutMemory request lacking = (source : Change SourceState) (sink : Change SinkState) → IsUnused source sink → EndsRequest request source sink NoMemory
+EndsWithoutMemory request lacking = (source : Change SourceState) (sink : Change SinkState) → IsUnused source sink → EndsRequest request source sink (NoMemory lacking)
 
 -- ---- what is printed beside the output
 

@@ -8,6 +8,7 @@ use crate::faults::BatchFault;
 use batch_runs::Summary;
 use byte_streams::Sink;
 use command_line::NoRequest;
+use memory::OutOfMemory;
 
 /// How the program ends.
 #[derive(Debug, Drop)]
@@ -16,8 +17,10 @@ pub enum Ending {
     NoTexts,
     /// It was given arguments that ask for nothing.
     Refused(NoRequest),
-    /// There was no memory for the arguments, the streams' buffers or the tables.
-    NoMemory,
+    /// There was no memory for the arguments or the streams' buffers: only `main` ends so.
+    NoMemoryToStart,
+    /// There was no memory for the tables.
+    NoMemory(OutOfMemory),
     /// All lines were answered or refused.
     Ran(Summary),
     /// A certificate was written, judged, drawn or upgraded, or a replay answered, and this is the
@@ -46,7 +49,8 @@ impl Ending {
         match self {
             Ending::NoTexts => 2,
             Ending::Refused(refusal) => refusal.status(),
-            Ending::NoMemory => 4,
+            Ending::NoMemoryToStart => 4,
+            Ending::NoMemory(_) => 4,
             Ending::Ran(counts) => batch_status(*counts),
             Ending::Answered(status) => *status,
             Ending::Shown => 0,
@@ -61,7 +65,7 @@ impl Ending {
         match self {
             Ending::NoTexts => "error: invalid UTF-8 was detected in one or more arguments\n",
             Ending::Refused(refusal) => refusal.message(),
-            Ending::NoMemory => "tilesolve: memory\n",
+            Ending::NoMemoryToStart | Ending::NoMemory(_) => "tilesolve: memory\n",
             Ending::Ran(_) | Ending::Answered(_) | Ending::Shown => "",
             Ending::Faulted(fault) => fault_line(*fault),
         }

@@ -54,8 +54,9 @@ impl<'a, R: Threads + Wait + Sync, W: Watch + Sync> Runner<'a, R, W> {
             Ok(request) => request,
             Err(refusal) => return Ending::Refused(refusal),
         };
-        let Ok(command) = command_for(self.rt, self.alloc, request) else {
-            return Ending::NoMemory;
+        let command = match command_for(self.rt, self.alloc, request) {
+            Ok(command) => command,
+            Err(refused) => return Ending::NoMemory(refused),
         };
         let ending = self.run(&command, source, sink);
         flush_behind(sink, ending)

@@ -7,8 +7,9 @@
 //!   Searches read `WithFigures`, whose figures are exact; no contract says what a watch does.
 //! - One worker owns all boards, so it is run with the cheapest spread.
 //! - `end_ahead`: boards that are held together, at least 16 if they have at most 9 cells and at
-//!   least 2 if more, are solved each by one worker, in as many threads as workers, until a thread
-//!   has expanded two million. A board without memory is solved again at its line.
+//!   least 2 if more, are solved each by one worker, in as many threads as workers. A thread that
+//!   has expanded two million takes no other. A board without memory is solved again at its line,
+//!   and so are those behind it.
 //! - `MayAnswer` is what a board may be answered, `MayCertify` with rows. `bounds_are_due` says
 //!   what they mean for bounds.
 //! - Start with `specs/Solving.antt`, then `src/solving.rt`.

@@ -132,12 +132,12 @@ impl<R: Eprint + AllocGlobal + Clock> Watch for Progress<'_, R> {
 fn read_words(rt: &(impl Env + AllocGlobal)) -> Result<Vec<String>, Ending> {
     let words = match env::args(rt) {
         Ok(words) => words,
-        Err(fault) if fault.kind() == ErrorKind::OutOfMemory => return Err(Ending::NoMemory),
+        Err(fault) if fault.kind() == ErrorKind::OutOfMemory => return Err(Ending::NoMemoryToStart),
         Err(_) => return Err(Ending::NoTexts),
     };
     match words.skip(1).collect(rt.alloc()) {
         Ok(words) => Ok(words),
-        Err(_) => Err(Ending::NoMemory),
+        Err(_) => Err(Ending::NoMemoryToStart),
     }
 }
 
@@ -152,7 +152,7 @@ fn main(rt: HostRuntime) -> ExitCode {
         BufferedSource::new(alloc, rt.stdin()),
         BufWriter::new(alloc, rt.stdout()),
     ) else {
-        return ExitCode::from(Ending::NoMemory.tell(&mut errors));
+        return ExitCode::from(Ending::NoMemoryToStart.tell(&mut errors));
     };
     let mut source = source;
     let mut sink = ByteSink::new(writer);
