@@ -1,4 +1,4 @@
-//! Gates that count expansions or bounds that are shown, or slow a worker down.
+//! Gates that count expansions, or what is shown of a search, or slow a worker down.
 
 use hda_run::{Gate, Kind, World};
 use owners::Spread;
@@ -33,9 +33,11 @@ impl Gate for Counter {
     }
 }
 
-/// Counts how often a bound is shown, or that there is none, and keeps the last bound.
+/// Counts how often a bound is shown, or that there is none, keeps the last bound, and adds up the
+/// boards that become known.
 #[derive(Drop)]
 pub struct Shown {
+    met: AtomicU64,
     times: AtomicU64,
     last: AtomicU64,
 }
@@ -44,9 +46,15 @@ impl Shown {
     /// A gate to which nothing was shown.
     pub fn new() -> Self {
         Shown {
+            met: AtomicU64::new(0),
             times: AtomicU64::new(0),
             last: AtomicU64::new(0),
         }
+    }
+
+    /// How many boards became known.
+    pub fn met(&self) -> u64 {
+        self.met.load(Ordering::SeqCst)
     }
 
     /// How often a bound was shown, or that there is none.
@@ -62,6 +70,10 @@ impl Shown {
 
 impl Gate for Shown {
     fn pass(&self, _worker: usize, _kind: Kind) {}
+
+    fn meet(&self, boards: usize) {
+        let _ = self.met.fetch_add(boards as u64, Ordering::SeqCst);
+    }
 
     fn wants_bound(&self) -> bool {
         true

@@ -5,12 +5,15 @@ use crate::problems::{Costs, weights_of};
 use batch_runs::{Setup, SpreadKind};
 use board::{Board, Shape};
 use byte_streams::{ByteSink, ByteSource};
+use hda_run::{Gate, Kind, World};
+use owners::Spread;
 use setup_runs::run_batch;
 use std::alloc::Global;
 use std::io::{self, ErrorKind, Print};
 use std::sync::Wait;
+use std::sync::atomic::{AtomicU64, Ordering};
 use std::thread::Threads;
-use test_worlds::Counter;
+use test_worlds::{Counter, Shown};
 
 /// A line, and what its batch has in common.
 #[derive(Clone, Copy)]
@@ -199,25 +202,69 @@ pub fn print_report<R: Print + AllocGlobal + Threads + Wait + Sync>(
 ) -> io::Result<()> {
     asked.print(rt)?;
     match report_of(rt, asked) {
-        Some((report, expanded)) => print_made(rt, asked, report.as_slice(), expanded),
+        Some((report, seen)) => print_made(rt, asked, report.as_slice(), &seen),
         None => Err(ErrorKind::InvalidData.into()),
     }
 }
 
-// Prints a report, and before it how many expansions the gate saw, where one worker makes as many
-// each time.
-fn print_made(rt: &impl Print, asked: &Asked, report: &[u8], expanded: u64) -> io::Result<()> {
+// Prints a report, and before it what the gate saw, where one worker does the same each time.
+fn print_made(rt: &impl Print, asked: &Asked, report: &[u8], seen: &Seen) -> io::Result<()> {
     if asked.workers == 1 {
-        println!(rt; "# {expanded} expansions")?;
+        println!(rt;
+            "# {} expansions in {} steps; {} boards met; {} bounds shown, the last {}",
+            seen.expanded.expanded(),
+            seen.steps.load(Ordering::SeqCst),
+            seen.shown.met(),
+            seen.shown.times(),
+            seen.shown.last()
+        )?;
     }
     print_text(rt, report)
 }
 
-// The report of a line, and how many expansions the gate saw; or None where memory was refused.
+// What a gate saw: expansions, steps of any kind, and what it was shown.
+#[derive(Drop)]
+struct Seen {
+    expanded: Counter,
+    steps: AtomicU64,
+    shown: Shown,
+}
+
+impl Seen {
+    // A gate that no step has passed.
+    fn new() -> Self {
+        Seen {
+            expanded: Counter::new(),
+            steps: AtomicU64::new(0),
+            shown: Shown::new(),
+        }
+    }
+}
+
+impl Gate for Seen {
+    fn pass(&self, worker: usize, kind: Kind) {
+        self.expanded.pass(worker, kind);
+        let _ = self.steps.fetch_add(1, Ordering::SeqCst);
+    }
+
+    fn meet(&self, boards: usize) {
+        self.shown.meet(boards);
+    }
+
+    fn wants_bound(&self) -> bool {
+        true
+    }
+
+    fn show_bound<S: Spread>(&self, world: &World<'_, S>, bound: Option<u32>) {
+        self.shown.show_bound(world, bound);
+    }
+}
+
+// The report of a line, and what the gate saw; or None where memory was refused.
 fn report_of<R: AllocGlobal + Threads + Wait + Sync>(
     rt: &R,
     asked: &Asked,
-) -> Option<(Vec<u8>, u64)> {
+) -> Option<(Vec<u8>, Seen)> {
     let setup = setup_of(rt, rt.alloc(), asked)?;
     report_by(rt, &setup, asked.line)
 }
@@ -226,12 +273,12 @@ fn report_by<R: AllocGlobal + Threads + Wait + Sync>(
     rt: &R,
     setup: &Setup,
     line: &str,
-) -> Option<(Vec<u8>, u64)> {
+) -> Option<(Vec<u8>, Seen)> {
     let mut source = ByteSource::new(line.as_bytes());
     let mut sink = ByteSink::new(Vec::new(rt.alloc()));
-    let counter = Counter::new();
-    run_batch(rt, rt.alloc(), &mut source, &mut sink, setup, &counter).ok()?;
-    Some((sink.into_inner(), counter.expanded()))
+    let seen = Seen::new();
+    run_batch(rt, rt.alloc(), &mut source, &mut sink, setup, &seen).ok()?;
+    Some((sink.into_inner(), seen))
 }
 
 /// Prints bytes that are UTF-8.
