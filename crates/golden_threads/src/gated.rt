@@ -14,6 +14,9 @@ use test_worlds::{
 
 const LIMIT: u64 = 4000;
 
+// So large that sixteen workers can't leave all of it.
+const LARGE_LIMIT: u64 = 20_000;
+
 // One grant may use it up. No contract says that a board is expanded under such a limit.
 const SMALL_LIMIT: u64 = 200;
 
@@ -23,6 +26,7 @@ const LEFT_BY_EACH: u64 = 256;
 /// Prints the runs that a limit stops, and those in which a worker is slow.
 pub fn print_runs<R: Threads + Wait + Print + AllocGlobal + Sync>(rt: &R) -> io::Result<()> {
     print_large(rt)?;
+    print_larger(rt)?;
     print_small(rt)?;
     delays::print_runs(rt)
 }
@@ -36,6 +40,35 @@ fn print_large<R: Threads + Wait + Print + AllocGlobal + Sync>(rt: &R) -> io::Re
         print_run(rt, 1, *division, LIMIT, LIMIT)?;
         print_run(rt, 4, *division, LIMIT, LIMIT - 4 * LEFT_BY_EACH)?;
         print_run(rt, 16, *division, LIMIT, 1)?;
+    }
+    rt.println("")
+}
+
+// Prints whether two, three and sixteen workers leave no more of a limit than they may.
+fn print_larger<R: Threads + Wait + Print + AllocGlobal + Sync>(rt: &R) -> io::Result<()> {
+    println!(rt; "# The same board, limit {LARGE_LIMIT}")?;
+    for division in &Division::HASHED {
+        print_run(
+            rt,
+            2,
+            *division,
+            LARGE_LIMIT,
+            LARGE_LIMIT - 2 * LEFT_BY_EACH,
+        )?;
+        print_run(
+            rt,
+            3,
+            *division,
+            LARGE_LIMIT,
+            LARGE_LIMIT - 3 * LEFT_BY_EACH,
+        )?;
+        print_run(
+            rt,
+            16,
+            *division,
+            LARGE_LIMIT,
+            LARGE_LIMIT - 16 * LEFT_BY_EACH,
+        )?;
     }
     rt.println("")
 }
