@@ -2,9 +2,9 @@
 use Rattle.std.proofs.Common.{◌≡◌, ◌∙◌, Bool, true, false, List, [], ◌∷◌, Option, None, Some, inl, inr, sym, ap, subst, map, arith, codes, ℕ, ◌≢◌, Result, Ok, Err, refl, ◌⊎◌, ◌<◌, append-nil, string_bytes, ◌++◌}
 use Rattle.std.specs.Io.KnownBytes.{Appends}
 use Rattle.std.proofs.lemmas.Bool.{true≢false}
-use Rattle.batch_runs.proofs.BatchLemmas.{run_true, outputs_true}
+use Rattle.batch_runs.proofs.BatchLemmas.{run_true, outputs_true, beginnings_true}
 use Rattle.setup_runs.specs.Solving.{rules_of, certifying_rules_of}
-use Rattle.batch_cli.specs.Laws.{MessagesAreBegun, OutputsTellTheTruth, SolvedOutputsTellTheTruth, CertificatesAnswerTheFirst, AcceptedInputsAreTrue, DefaultSetupsAreKorfs}
+use Rattle.batch_cli.specs.Laws.{MessagesAreBegun, OutputsTellTheTruth, SolvedOutputsTellTheTruth, CertificatesAnswerTheFirst, AcceptedInputsAreTrue, DefaultSetupsAreKorfs, RunsWithoutArgumentsAreTrue, BegunOutputsTellTheTruth, ListsAreWritten, TextsAreWritten, RefusedInputsAreFaulty}
 use Rattle.std.specs.Prelude.{IfSome, IsSome}
 use Rattle.std.proofs.KnownBytes.{Appends-kept, Keeps-trans}
 use Rattle.clap.specs.Words.{Text, Row, Kinds, first_of}
@@ -114,6 +114,34 @@ accepted_inputs source sink input known truth =
     let states = judged.accepted refl in
     let c = states.0 in
     (c, states.1, states.2, λ plan is. (subst (λ (p : Option (List Move)). IfSome p (λ it. Leads c.costs c.start it c.goal c.cost × IsLeast c.costs c.start c.goal c.cost)) is states.3).0)
+
+pub refused_inputs : RefusedInputsAreFaulty
+refused_inputs source sink input known truth =
+    let judged : JudgesTruly 5 sink input = subst (λ (left : Option (List ℕ)). IfSome left (JudgesTruly 5 sink)) known truth in
+    judged.refused refl
+
+pub without_arguments : RunsWithoutArgumentsAreTrue
+without_arguments source sink errors status ran = elim (ran.batch refl) [
+  | inl it ↦ inl it.1
+  | inr it ↦ inr it.1
+]
+
+pub begun_outputs : BegunOutputsTellTheTruth
+begun_outputs source sink status input known empty (setup, is, begun, written) =
+    let b = beginnings_true (rules_of setup) source sink input known empty begun in
+    (setup, is, b.0, b.1, b.2, b.3, b.4, b.5, b.6)
+
+written_whole : (sink : Change SinkState) (output : List ℕ) → sink.before.contents ≡ Some [] → Puts sink output → sink.after.contents ≡ Some output
+written_whole sink output empty puts =
+    let put : Appends (Some []) sink.after.contents output = rw empty at puts in
+    appended sink.after.contents [] output put
+
+pub boards_written : ListsAreWritten
+boards_written l source sink empty truth = let all = truth refl in (all.0, all.1, written_whole sink (lines_text 1 all.0) empty all.2)
+
+pub text_written : TextsAreWritten
+text_written text source sink empty (inl truth) = written_whole sink (string_bytes text) empty (truth refl)
+text_written text source sink empty (inr truth) = written_whole sink (string_bytes text) empty (truth refl)
 
 pub default_setups : DefaultSetupsAreKorfs
 default_setups setup is = (ap (λ (b : BoardModel). b.tiles) is.goal, is.rule, is.groups, is.limit, is.workers)

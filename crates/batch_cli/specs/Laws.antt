@@ -1,21 +1,26 @@
 -- The laws of the definitions. Each is the contract of a function that does nothing.
-use Rattle.std.specs.Prelude.{ℕ, Bool, ◌≡◌, ◌≤◌, ◌<◌, true, false, List, [], ◌∷◌, ◌++◌, Ok, Some, map}
+use Rattle.std.specs.Prelude.{ℕ, Bool, ◌≡◌, ◌≤◌, ◌<◌, ◌⊎◌, ⊤, true, false, List, [], ◌∷◌, ◌++◌, Ok, Some, map, String, string_bytes}
+use Rattle.std.specs.declared.alloc.Global.{Global}
 use Rattle.byte_streams.specs.Streams.{SourceState, SinkState, Change}
 use Rattle.board.specs.declared.moves.Move.{Move}
+use Rattle.board.specs.Boards.{BoardModel}
 use Rattle.board.specs.Plans.{Leads}
 use Rattle.board.specs.Weights.{unit_rule}
 use Rattle.certificate.specs.Certificates.{CertificateModel}
 use Rattle.certificate.specs.Readings.{certificate}
-use Rattle.certificate_runs.specs.Headline.{AnswersFirst}
+use Rattle.board_lists.specs.Lines.{lines_text}
+use Rattle.board_lists.specs.Lists.{AreChosen}
+use Rattle.certificate_runs.specs.Headline.{AnswersFirst, IsCertificateRefusedBy}
+use Rattle.command_line.specs.declared.requests.Listing.{Listing}
 use Rattle.command_line.specs.declared.requests.Options.{Options}
-use Rattle.command_line.specs.declared.requests.Request.TheVariants.{Solve, Certify, Check}
+use Rattle.command_line.specs.declared.requests.Request.TheVariants.{Solve, Certify, Check, Boards, Help, Version}
 use Rattle.batch_lines.specs.Lines.{lines_of}
 use Rattle.batch_runs.specs.Meanings.{AreAllDecided}
 use Rattle.batch_runs.specs.Headline.{TellsTheTruth}
 use Rattle.batch_cli.specs.declared.endings.Ending.{Ending}
 use Rattle.batch_cli.specs.Endings.{Tells, message_of}
 use Rattle.batch_cli.specs.Setups.{IsDefaultSetup, small_grid}
-use Rattle.batch_cli.specs.Headline.{IsTrue, IsTrueOf}
+use Rattle.batch_cli.specs.Headline.{IsTrue, IsTrueOf, RunsProgram}
 use Rattle.batch_cli.specs.Programs.{PrintsAsAsked}
 use Rattle.batch_cli.specs.declared.commands.Command.TheVariants as command
 use Rattle.batch_runs.specs.Setups.{SetupModel}
@@ -99,3 +104,34 @@ OptionsArePrinted =
     (o : Options) (setup : SetupModel) (progress stats : Bool)
     → (PrintsAsAsked (Solve o) (command.Solve setup progress stats) → (progress ≡ o.progress) × (stats ≡ o.stats))
     × (PrintsAsAsked (Certify o) (command.Certify setup progress) → progress ≡ o.progress)
+
+-- a run without arguments is true, or ends with the status 4
+abbrev pub RunsWithoutArgumentsAreTrue : Type 0
+RunsWithoutArgumentsAreTrue = (source : Change SourceState) (sink errors : Change SinkState) (status : ℕ) → RunsProgram [] source sink errors status ⊤ ⊤ → IsTrue status source sink ⊎ (status ≡ 4)
+
+-- Where the input is known and the output was empty, what the sink holds begins what tells the truth of the input's first lines, whatever the
+-- status.
+abbrev pub BegunOutputsTellTheTruth : Type 0
+BegunOutputsTellTheTruth =
+    (source : Change SourceState) (sink : Change SinkState) (status : ℕ) (input : List ℕ)
+    → source.before.left ≡ Some input
+    → sink.before.contents ≡ Some []
+    → IsTrue status source sink
+    → (setup : SetupModel) × IsDefaultSetup setup
+    × (lines more : List (List ℕ)) × (written unwritten : List ℕ) × (lines_of input ≡ lines ++ more) × (sink.after.contents ≡ Some written) × TellsTheTruth (rules_of setup) lines (written ++ unwritten)
+
+-- with the status 0 an output that was empty has just the lines of the boards that were chosen
+abbrev pub ListsAreWritten : Type 0
+ListsAreWritten = (l : Listing) (source : Change SourceState) (sink : Change SinkState) → sink.before.contents ≡ Some [] → IsTrueOf (Boards l) 0 source sink → (boards : List BoardModel) × AreChosen l.goal l.choice boards × (sink.after.contents ≡ Some (lines_text 1 boards))
+
+-- or the text that was asked for
+abbrev pub TextsAreWritten : Type 0
+TextsAreWritten =
+    (text : String Global) (source : Change SourceState) (sink : Change SinkState)
+    → sink.before.contents ≡ Some []
+    → IsTrueOf (Help text) 0 source sink ⊎ IsTrueOf (Version text) 0 source sink
+    → sink.after.contents ≡ Some (string_bytes text)
+
+-- where `check` of a known input ends with the status 5, the input is refused for a cause
+abbrev pub RefusedInputsAreFaulty : Type 0
+RefusedInputsAreFaulty = (source : Change SourceState) (sink : Change SinkState) (input : List ℕ) → source.before.left ≡ Some input → IsTrueOf Check 5 source sink → (code : List ℕ) × IsCertificateRefusedBy input code

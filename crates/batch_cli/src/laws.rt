@@ -3,7 +3,9 @@
 ghost use Rattle.batch_cli.specs.Laws.{MessagesAreWhole, MessagesAreBegun, OutputsTellTheTruth};
 ghost use Rattle.batch_cli.specs.Laws.{SolvedOutputsTellTheTruth, CertificatesAnswerTheFirst};
 ghost use Rattle.batch_cli.specs.Laws.{AcceptedInputsAreTrue, DefaultSetupsAreKorfs};
-ghost use Rattle.batch_cli.specs.Laws.{OptionsArePrinted};
+ghost use Rattle.batch_cli.specs.Laws.{OptionsArePrinted, RunsWithoutArgumentsAreTrue};
+ghost use Rattle.batch_cli.specs.Laws.{BegunOutputsTellTheTruth, ListsAreWritten, TextsAreWritten};
+ghost use Rattle.batch_cli.specs.Laws.{RefusedInputsAreFaulty};
 
 /// To a stream that has not failed since, the message is written whole.
 pub fn messages_are_whole()
@@ -33,6 +35,27 @@ pub fn asked_outputs_tell_the_truth()
 #[tactic(auto, using(crate::proofs::LawLemmas::accepted_inputs))]
 pub fn accepted_inputs_are_true()
     ensures { AcceptedInputsAreTrue }
+{}
+
+/// A known input that is refused has a fault, or claims what is not proved.
+#[tactic(auto, using(crate::proofs::LawLemmas::refused_inputs))]
+pub fn refused_inputs_are_faulty()
+    ensures { RefusedInputsAreFaulty }
+{}
+
+/// A run without arguments is true, or ends with the status 4. What it leaves of an output begins
+/// what tells the truth, whatever the status.
+#[tactic(auto, using(crate::proofs::LawLemmas::without_arguments, crate::proofs::LawLemmas::begun_outputs))]
+pub fn runs_without_arguments_are_true()
+    ensures run { RunsWithoutArgumentsAreTrue }
+    ensures begun { BegunOutputsTellTheTruth }
+{}
+
+/// With the status 0 boards that were asked for are listed, and texts are written.
+#[tactic(auto, using(crate::proofs::LawLemmas::boards_written, crate::proofs::LawLemmas::text_written))]
+pub fn lists_and_texts_are_written()
+    ensures boards { ListsAreWritten }
+    ensures texts { TextsAreWritten }
 {}
 
 /// Without arguments 3 by 3 boards are solved, for Korf's goal at unit cost.
