@@ -19,7 +19,7 @@ use Rattle.batch_runs.specs.declared.batch.Summary.{Summary}
 use Rattle.batch_runs.specs.Headline.{IsTrueRun, TellsTheTruth, BatchOutputsTellTheTruth, BeginningsTellTheTruth}
 use Rattle.batch_runs.specs.declared.faults.LinesFault.{LinesFault}
 use Rattle.batch_runs.specs.declared.faults.LinesFault.TheVariants.{Read, Write, Memory}
-use Rattle.batch_runs.specs.Laws.{BatchLinesAreLostToFailures, OutputsAreAnswers, FailedWritesAreTold}
+use Rattle.batch_runs.specs.Laws.{BatchLinesAreLostToFailures, OutputsAreAnswers, FailedWritesAreTold, WriteFaultsAreFailures, ReadFaultsAreFailures}
 use Rattle.batch_runs.proofs.TruthLemmas.{truth, settled}
 
 -- ---- the reports of lines, one line after the other: one answer more
@@ -317,3 +317,9 @@ told rules source sink (Ok counts) unfailed other reports = reports.2 ∙ unfail
 told rules source sink (Err Read) unfailed other reports = reports.1 ∙ unfailed
 told rules source sink (Err Write) unfailed other reports = absurd (other refl)
 told rules source sink (Err (Memory lacking)) unfailed other reports = reports.2 ∙ unfailed
+
+pub write_failed : (rules : Rules) → WriteFaultsAreFailures rules
+write_failed rules source sink (some, readable, failed) = failed
+
+pub read_failed : (rules : Rules) → ReadFaultsAreFailures rules
+read_failed rules source sink input is short (whole, kept) = lost source whole.lines input is short whole.lost

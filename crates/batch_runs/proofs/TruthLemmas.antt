@@ -1,22 +1,28 @@
 -- What is read in a line of the output is what was reported of the line that it answers.
-use Rattle.std.proofs.Common.{◌≡◌, ◌≢◌, ℕ, zero, suc, ◌<◌, List, [], ◌∷◌, Option, None, Some, length, refl, sym, ap, ◌∙◌, subst, inl, inr, arith, slice_get, ◌+◌, ◌^◌, ◌≤◌, ◌++◌, cond, append_assoc, codes, get_or, map, not, ◌==◌, ◌&&◌}
+use Rattle.std.proofs.Common.{◌≡◌, ◌≢◌, ℕ, zero, suc, ◌<◌, List, [], ◌∷◌, Option, None, Some, length, refl, sym, ap, ◌∙◌, subst, inl, inr, arith, slice_get, ◌+◌, ◌^◌, ◌≤◌, ◌++◌, cond, append_assoc, codes, get_or, map, not, ◌==◌, ◌&&◌, Vec, Global, ⊎_elim}
 use Rattle.std.specs.List.{All, AllPairs, AllByRecursion}
-use Rattle.std.proofs.lemmas.Bool.{true≢false, ne_eqb, eqb-true}
+use Rattle.std.proofs.lemmas.Bool.{true≢false, ne_eqb, eqb-true, cases_lt}
 use Rattle.std.proofs.lemmas.Option.{slice_get_within, get_or_from_slice_get}
 use Rattle.std.specs.Prelude.{Bool, true, false, nat_lt, ⊤, ◌⊎◌, unwrap_or, option_and_then}
 use Rattle.serde_json.specs.Data.{Data, null, boolean, number, string, array, object}
-use Rattle.serde_json.specs.Find.{as_number, as_u64}
+use Rattle.serde_json.specs.Find.{get, as_number, as_u64}
 use Rattle.serde_json.specs.Read.{read}
 use Rattle.serde_json.specs.Written.{compact_text}
 use Rattle.board.specs.Shapes.{ShapeModel, cell_count}
 use Rattle.board.specs.Boards.{BoardModel, IsBoard}
+use Rattle.board.specs.Faults.{tiles_code}
 use Rattle.board.specs.Letters.{letter_of, move_of_letter}
 use Rattle.board.specs.Plans.{Leads, NothingBelow, IsLeast}
 use Rattle.board.specs.declared.moves.Move.{Move}
 use Rattle.board.specs.declared.moves.Move.TheVariants.{U, L, R, D}
 use Rattle.board.specs.declared.faults.TilesFault.{TilesFault}
 use Rattle.board.specs.declared.faults.TilesFault.TheVariants.{WrongCount, TileOutOfRange, TileRepeated}
-use Rattle.outcomes.specs.Outcomes.{Task, best_of}
+use Rattle.outcomes.specs.Outcomes.{Task, IsBestPlan, AllowsWhy, AllowsCause, best_of}
+use Rattle.outcomes.specs.Words.{why_word, cause_word}
+use Rattle.outcomes.specs.declared.outcome.Why.{Why}
+use Rattle.outcomes.specs.declared.outcome.Why.TheVariants.{Parity, Exhausted}
+use Rattle.outcomes.specs.declared.outcome.Cause.{Cause}
+use Rattle.outcomes.specs.declared.outcome.Cause.TheVariants.{Limit, Memory, Start, Cost, Cut}
 use Rattle.outcomes.specs.Endings.{EndAnswers}
 use Rattle.outcomes.specs.declared.outcome.Ending.{Ending}
 use Rattle.outcomes.specs.declared.outcome.Ending.TheVariants.{Optimal, Unsolvable, Bounded}
@@ -27,18 +33,18 @@ use Rattle.batch_lines.specs.declared.words.EntryFault.TheVariants.{NoText, NoBo
 use Rattle.batch_lines.specs.declared.lines.LineKind.{LineKind}
 use Rattle.batch_lines.specs.declared.lines.LineKind.TheVariants.{PassedOver, Within, TooLong}
 use Rattle.batch_lines.specs.declared.lines.TheConstants.{LINE_LIMIT}
-use Rattle.reports.specs.Reports.{outcome_data, refused_data, report_text, letters_of}
-use Rattle.reports.specs.Readings.{IsSmall, HasSmallNumbers, IsReport, HasStatus}
+use Rattle.reports.specs.Reports.{outcome_data, refused_data, report_text, letters_of, best_data}
+use Rattle.reports.specs.Readings.{IsSmall, HasSmallNumbers, IsReport, HasStatus, Reads}
 use Rattle.reports.specs.Readings.IsReport.{of_outcome, of_line}
 use Rattle.reports.proofs.ReadLemmas.{report_read}
 use Rattle.reports.proofs.TextLemmas.{text_other}
-use Rattle.batch_runs.specs.Meanings.{Names, HasFault, asks, questions, IsQuestion, IsReply, SaysRefused, AreAllDecided}
+use Rattle.batch_runs.specs.Meanings.{Names, HasFault, asks, questions, IsQuestion, IsReply, SaysLeast, SaysNone, SaysBound, SaysRefused, AreAllDecided}
 use Rattle.batch_runs.specs.Batches.{Rules, IsTruthful, Answer, AnswersEntry, AnswersKind, AnswersLine, AnswersLines, answer_text, answers_text, with_answer, with_answers, no_lines, status_of_counts}
 use Rattle.batch_runs.specs.Batches.Answer.{passed_over, refused, answered}
 use Rattle.batch_runs.specs.Batches.AnswersEntry.{by_fault, by_outcome, by_want}
 use Rattle.batch_runs.specs.declared.batch.Summary.{Summary}
 use Rattle.batch_runs.specs.Headline.{IsTrueOfBoard, TellsTheTruth}
-use Rattle.batch_runs.specs.Laws.{OptimalReportsAreLeast, UnsolvableReportsHaveNoPlan, BoundedReportsAreBelow, ReportsAreNamed}
+use Rattle.batch_runs.specs.Laws.{OptimalReportsAreLeast, UnsolvableReportsHaveNoPlan, ReasonsAreTrue, BoundedReportsAreBelow, BestPlansLead, CausesAreTrue, ReportsAreNamed, BoardsAreAnswered, RefusedBoardsLackMemory, RefusedLinesAreFaulty, OutputLinesAreRead, SilenceIsNoTruth, DecidedLinesAreAccepted, DecidedLinesAreSettled}
 
 -- ---- a line names one board, and then it has no fault
 
@@ -113,6 +119,44 @@ not_both e = true≢false (ap is_long e)
 pub no_fault : (grid : ShapeModel) (line id code : List ℕ) (b : BoardModel) → Names grid line id b → ¬ HasFault grid line code
 no_fault grid line id code b (within, entry) (inl (long, is)) = not_both (sym long ∙ within)
 no_fault grid line id code b (within, entry) (inr (within', (fault, first, is))) = no_entry_fault grid (without_return line) id b entry fault first
+
+-- no place is out of range where another one before it or at it repeats a number, or it the other way round
+not_two_places : (grid : ShapeModel) (words : List (List ℕ)) (place place' : ℕ) → IsFirstWordFault grid words (TileOutOfRange place) → ¬ IsFirstWordFault grid words (TileRepeated place')
+not_two_places grid words place place' (word, first, at, large) (word', n, k, before, first', at', spell, low, less, there, same) = ⊎_elim
+    (λ (earlier : place < place'). let seen = first'.in_range place word earlier at in absurd (omega (arith, seen.2, large seen.0 seen.1)))
+    (λ (not_earlier : place' ≤ place). ⊎_elim
+    (λ (later : place' < place). first.different k place' before word' n less later there at' same spell)
+    (λ (not_later : place ≤ place').
+    let here : place' ≡ place = omega arith in
+    let one : word' ≡ word = ap word_or (sym at' ∙ ap (λ (j : ℕ). slice_get words j) here ∙ at) in
+    absurd (omega (arith, low, large n (subst (λ (w : List ℕ). SpellsDecimal w n) one spell))))
+    (cases_lt place' place))
+    (cases_lt place place')
+
+-- a line has the code of one fault
+same_tiles_code : (grid : ShapeModel) (words : List (List ℕ)) (fault fault' : TilesFault) → IsFirstWordFault grid words fault → IsFirstWordFault grid words fault' → tiles_code fault ≡ tiles_code fault'
+same_tiles_code grid words WrongCount WrongCount h k = refl
+same_tiles_code grid words WrongCount (TileOutOfRange place) h k = absurd (h k.1.one_each)
+same_tiles_code grid words WrongCount (TileRepeated place) h k = absurd (h k.4.one_each)
+same_tiles_code grid words (TileOutOfRange place) WrongCount h k = absurd (k h.1.one_each)
+same_tiles_code grid words (TileOutOfRange place) (TileOutOfRange place') h k = refl
+same_tiles_code grid words (TileOutOfRange place) (TileRepeated place') h k = absurd (not_two_places grid words place place' h k)
+same_tiles_code grid words (TileRepeated place) WrongCount h k = absurd (k h.4.one_each)
+same_tiles_code grid words (TileRepeated place) (TileOutOfRange place') h k = absurd (not_two_places grid words place' place k h)
+same_tiles_code grid words (TileRepeated place) (TileRepeated place') h k = refl
+
+same_entry_code : (grid : ShapeModel) (line : List ℕ) (fault fault' : EntryFault) → IsFirstEntryFault grid line fault → IsFirstEntryFault grid line fault' → entry_code fault ≡ entry_code fault'
+same_entry_code grid line NoText NoText h k = refl
+same_entry_code grid line NoText (NoBoard fault') h k = absurd (h k.0)
+same_entry_code grid line (NoBoard fault) NoText h k = absurd (k h.0)
+same_entry_code grid line (NoBoard fault) (NoBoard fault') h k = same_tiles_code grid (tile_words (words_of line)) fault fault' h.1 k.1
+
+same_code : (grid : ShapeModel) (line code code' : List ℕ) → HasFault grid line code → HasFault grid line code' → code ≡ code'
+same_code grid line code code' (inl (long, is)) (inl (long', is')) = is ∙ sym is'
+same_code grid line code code' (inl (long, is)) (inr (within, found)) = absurd (not_both (sym long ∙ within))
+same_code grid line code code' (inr (within, found)) (inl (long, is)) = absurd (not_both (sym long ∙ within))
+same_code grid line code code' (inr (within, (fault, first, is))) (inr (within', (fault', first', is'))) =
+    is ∙ same_entry_code grid (without_return line) fault fault' first first' ∙ sym is'
 
 -- ---- what is reported of a line is read in the output: lines
 
@@ -318,16 +362,119 @@ reported_least task id name cost plan true_of =
 pub reported_none : UnsolvableReportsHaveNoPlan
 reported_none task id name why true_of = (true_of.unsolvable refl).0
 
+-- a reason with the word of an allowed one is allowed
+allowed_why : (task : Task) (why why' : Why) → why_word why ≡ why_word why' → AllowsWhy task why' → AllowsWhy task why
+allowed_why task Parity Parity e allowed = allowed
+allowed_why task Parity Exhausted e allowed = let z = ap (λ (word : List ℕ). get_or word 0 0) e in absurd (omega arith)
+allowed_why task Exhausted why' e allowed = tt
+
+pub reported_why : ReasonsAreTrue
+reported_why task id name why true_of = let says = (true_of.unsolvable refl).1 in allowed_why task why says.0 (ap letters_in says.1) says.2
+
 pub reported_bound : BoundedReportsAreBelow
 reported_bound task id name bound best cause true_of =
     let says = true_of.bounded refl in
     let bounds : bound ≡ says.0 = ap number_in says.3 in
     subst (NothingBelow task.rule task.start task.goal) (sym bounds) says.6
 
+abbrev best_in : Data → Option (ℕ × List Move)
+best_in null = None
+best_in (boolean b) = None
+best_in (number n) = None
+best_in (string s) = None
+best_in (array ds) = None
+best_in (object ms) = Some (number_in (get (codes "cost") (object ms)), moves_of (letters_in (get (codes "plan") (object ms))))
+
+own_best : (best : Option (ℕ × List Move)) → best_in (best_data best) ≡ best
+own_best None = refl
+own_best (Some best) = ap (λ (plan : List Move). Some (best.0, plan)) (own_moves best.1)
+
+pub reported_best : BestPlansLead
+reported_best task id name bound cost plan cause true_of =
+    let says = true_of.bounded refl in
+    let best : Option (ℕ × List Move) = Some (cost, plan.items) in
+    let bounds : bound ≡ says.0 = ap number_in says.3 in
+    let plans : best ≡ says.1 = sym (own_best best) ∙ ap (λ (o : Option Data). best_in (data_or o)) says.4 ∙ own_best says.1 in
+    let leads : IsBestPlan task says.0 best = subst (λ (it : Option (ℕ × List Move)). IsBestPlan task says.0 it) (sym plans) says.7 in
+    subst (λ (c : ℕ). IsBestPlan task c best) (sym bounds) leads
+
+-- a cause with the word of an allowed one is allowed
+allowed_cause : (bound : ℕ) (cause cause' : Cause) → cause_word cause ≡ cause_word cause' → AllowsCause bound cause' → AllowsCause bound cause
+allowed_cause bound Limit cause' e allowed = tt
+allowed_cause bound (Memory want) cause' e allowed = tt
+allowed_cause bound Start cause' e allowed = tt
+allowed_cause bound Cut cause' e allowed = tt
+allowed_cause bound Cost Cost e allowed = allowed
+allowed_cause bound Cost Limit e allowed = let z = ap (λ (word : List ℕ). get_or word 0 0) e in absurd (omega arith)
+allowed_cause bound Cost (Memory want) e allowed = let z = ap (λ (word : List ℕ). get_or word 0 0) e in absurd (omega arith)
+allowed_cause bound Cost Start e allowed = let z = ap (λ (word : List ℕ). get_or word 0 0) e in absurd (omega arith)
+allowed_cause bound Cost Cut e allowed = let z = ap (λ (word : List ℕ). get_or word 1 0) e in absurd (omega arith)
+
+pub reported_cause : CausesAreTrue
+reported_cause task id name bound best cause true_of =
+    let says = true_of.bounded refl in
+    let bounds : bound ≡ says.0 = ap number_in says.3 in
+    allowed_cause bound cause says.2 (ap letters_in says.5) (subst (λ (c : ℕ). AllowsCause c says.2) (sym bounds) says.8)
+
 pub reported_name : ReportsAreNamed
 reported_name task id name (Optimal cost plan) true_of = ap letters_in true_of.named
 reported_name task id name (Unsolvable why) true_of = ap letters_in true_of.named
 reported_name task id name (Bounded bound best cause) true_of = ap letters_in true_of.named
+
+-- ---- what is taken from an output that tells the truth
+
+abbrev IsOneOfThree : Data → Type 0
+IsOneOfThree d = HasStatus d (codes "optimal") ⊎ HasStatus d (codes "unsolvable") ⊎ HasStatus d (codes "bounded")
+
+pub says_one : BoardsAreAnswered
+says_one task id d true_of = of_status true_of.status
+  where
+    of_status : IsOneOfThree d → SaysLeast task d ⊎ SaysNone task d ⊎ SaysBound task d
+    of_status (inl e) = inl (true_of.optimal e)
+    of_status (inr (inl e)) = inr (inl (true_of.unsolvable e))
+    of_status (inr (inr e)) = inr (inr (true_of.bounded e))
+
+not_refused : (code : List ℕ) (m : ℕ) → ¬ IsOneOfThree (refused_data code m)
+not_refused code m (inl e) = let z = ap first_letter e in absurd (omega arith)
+not_refused code m (inr (inl e)) = let z = ap first_letter e in absurd (omega arith)
+not_refused code m (inr (inr e)) = let z = ap first_letter e in absurd (omega arith)
+
+not_bounded : (id : List ℕ) (bound : ℕ) (best : Option (ℕ × Vec Move Global)) (cause : Cause) → ¬ IsSettledData (outcome_data id (Bounded bound best cause))
+not_bounded id bound best cause (inl e) = let z = ap first_letter e in absurd (omega arith)
+not_bounded id bound best cause (inr e) = let z = ap first_letter e in absurd (omega arith)
+
+not_settled : (code : List ℕ) (m : ℕ) → ¬ IsSettledData (refused_data code m)
+not_settled code m (inl e) = not_refused code m (inl e)
+not_settled code m (inr e) = not_refused code m (inr (inl e))
+
+pub none_refused : DecidedLinesAreAccepted
+none_refused output k m code all seen = not_settled code m (all k (refused_data code m) seen)
+
+pub none_bounded : DecidedLinesAreSettled
+none_bounded output k bound id best cause all seen = not_bounded id bound best cause (all k (outcome_data id (Bounded bound best cause)) seen)
+
+pub refused_board : (rules : Rules) → RefusedBoardsLackMemory rules
+refused_board rules lines output k n m line id code b told asked names seen = of_reply (told.named k n line id b (refused_data code m) asked names seen)
+  where
+    of_reply : IsTrueOfBoard (rules.task b) id (refused_data code m) ⊎ SaysRefused (refused_data code m) (codes "V3") n × rules.allows b None → (code ≡ codes "V3") × (m ≡ n) × rules.allows b None
+    of_reply (inl true_of) = absurd (not_refused code m true_of.status)
+    of_reply (inr (says, lacking)) = (ap letters_in says.1, ap number_in says.2, lacking)
+
+pub refused_line : (rules : Rules) → RefusedLinesAreFaulty rules
+refused_line rules lines output k n m line code fault told asked faulty seen =
+    let says = told.unnamed k n line (refused_data code m) asked (λ id b names. no_fault rules.grid line id fault b names faulty) seen in
+    (ap letters_in says.2.1 ∙ same_code rules.grid line says.0 fault says.1 faulty, ap number_in says.2.2)
+
+pub line_read : (rules : Rules) → OutputLinesAreRead rules
+line_read rules lines output k line told at =
+    let reply = told.json k (slice_get_within (lines_of output) k line at) in
+    let same : reply.1.0 ≡ line = ap word_or (sym reply.1.1 ∙ at) in
+    (reply.0, subst (λ (l : List ℕ). Reads l reply.0) same reply.1.2)
+
+pub silence : (rules : Rules) → SilenceIsNoTruth rules
+silence rules line asking told =
+    let one : length (questions 1 (line ∷ [])) ≡ 1 = rw asking refl in
+    absurd (omega (arith, told.one_each, one))
 
 module _ (rules : Rules) (n : ℕ) (id : List ℕ) (b : BoardModel) where
   named_true : IsTruthful rules → (line : List ℕ) (d : Data) → Names rules.grid line id b → Tells rules n line d → IsTrueOfBoard (rules.task b) id d ⊎ SaysRefused d (codes "V3") n × rules.allows b None

@@ -1,22 +1,26 @@
 -- The laws of the definitions. Each is the contract of a function that does nothing.
-use Rattle.std.specs.Prelude.{ℕ, ◌≡◌, ◌≢◌, ◌≤◌, true, false, List, [], length, Some, Result, Ok, Err, Option, Vec}
+use Rattle.std.specs.Prelude.{ℕ, ◌≡◌, ◌≢◌, ◌≤◌, ◌<◌, true, false, List, [], ◌∷◌, ◌⊎◌, length, slice_get, Some, None, Result, Ok, Err, Option, Vec, codes}
 use Rattle.std.specs.declared.alloc.Global.{Global}
 use Rattle.board.specs.declared.moves.Move.{Move}
 use Rattle.board.specs.Plans.{Leads, NothingBelow, IsLeast}
-use Rattle.outcomes.specs.Outcomes.{Task}
+use Rattle.outcomes.specs.Outcomes.{Task, AllowsWhy, AllowsCause}
 use Rattle.outcomes.specs.declared.outcome.Cause.{Cause}
 use Rattle.outcomes.specs.declared.outcome.Why.{Why}
 use Rattle.outcomes.specs.declared.outcome.Ending.{Ending}
 use Rattle.outcomes.specs.declared.outcome.Ending.TheVariants.{Optimal, Unsolvable, Bounded}
-use Rattle.reports.specs.Reports.{outcome_data}
+use Rattle.reports.specs.Reports.{outcome_data, refused_data}
+use Rattle.reports.specs.Readings.{Reads}
+use Rattle.serde_json.specs.Data.{Data}
+use Rattle.board.specs.Boards.{BoardModel}
 use Rattle.byte_streams.specs.Streams.{SourceState, SinkState, Change}
 use Rattle.batch_lines.specs.Lines.{lines_of}
 use Rattle.batch_lines.specs.declared.lines.TheConstants.{INPUT_LIMIT}
 use Rattle.batch_runs.specs.declared.batch.Summary.{Summary}
 use Rattle.batch_runs.specs.declared.faults.LinesFault.{LinesFault}
-use Rattle.batch_runs.specs.declared.faults.LinesFault.TheVariants.{Write}
+use Rattle.batch_runs.specs.declared.faults.LinesFault.TheVariants.{Read, Write}
 use Rattle.batch_runs.specs.Batches.{Rules, Answer, AnswersLines, LosesLine, ReportsLines, answers_text}
-use Rattle.batch_runs.specs.Headline.{IsTrueOfBoard}
+use Rattle.batch_runs.specs.Headline.{IsTrueOfBoard, TellsTheTruth}
+use Rattle.batch_runs.specs.Meanings.{asks, IsQuestion, Names, HasFault, IsReply, SaysLeast, SaysNone, SaysBound, AreAllDecided}
 
 -- a line of an input within the limit is lost only where the source has failed
 abbrev pub BatchLinesAreLostToFailures : Type 0
@@ -37,6 +41,19 @@ abbrev pub FailedWritesAreTold : Rules → Type 0
 FailedWritesAreTold rules =
     (source : Change SourceState) (sink : Change SinkState) (result : Result Summary LinesFault) → sink.before.has_failed ≡ false → result ≢ Err Write → ReportsLines rules source sink result → sink.after.has_failed ≡ false
 
+-- a run says that the output cannot be written only where the sink has failed
+abbrev pub WriteFaultsAreFailures : Rules → Type 0
+WriteFaultsAreFailures rules = (source : Change SourceState) (sink : Change SinkState) → ReportsLines rules source sink (Err Write) → sink.after.has_failed ≡ true
+
+-- and that an input within the limit cannot be read only where the source has failed
+abbrev pub ReadFaultsAreFailures : Rules → Type 0
+ReadFaultsAreFailures rules =
+    (source : Change SourceState) (sink : Change SinkState) (input : List ℕ)
+    → source.before.left ≡ Some input
+    → length input ≤ INPUT_LIMIT
+    → ReportsLines rules source sink (Err Read)
+    → source.after.has_failed ≡ true
+
 -- where the report of a plan is true of a board, the plan leads to the goal at the cost that is reported, and no plan costs less
 abbrev pub OptimalReportsAreLeast : Type 0
 OptimalReportsAreLeast =
@@ -49,6 +66,10 @@ abbrev pub UnsolvableReportsHaveNoPlan : Type 0
 UnsolvableReportsHaveNoPlan =
     (task : Task) (id name : List ℕ) (why : Why) → IsTrueOfBoard task id (outcome_data name (Unsolvable why)) → (plan : List Move) (cost : ℕ) → ¬ Leads task.rule task.start plan task.goal cost
 
+-- and the reason that it names is true
+abbrev pub ReasonsAreTrue : Type 0
+ReasonsAreTrue = (task : Task) (id name : List ℕ) (why : Why) → IsTrueOfBoard task id (outcome_data name (Unsolvable why)) → AllowsWhy task why
+
 -- where the report of a bound is true of a board, no plan costs less
 abbrev pub BoundedReportsAreBelow : Type 0
 BoundedReportsAreBelow =
@@ -56,6 +77,63 @@ BoundedReportsAreBelow =
     → IsTrueOfBoard task id (outcome_data name (Bounded bound best cause))
     → NothingBelow task.rule task.start task.goal bound
 
+-- the best plan that it names leads to the goal at its cost, which is above the bound
+abbrev pub BestPlansLead : Type 0
+BestPlansLead =
+    (task : Task) (id name : List ℕ) (bound cost : ℕ) (plan : Vec Move Global) (cause : Cause)
+    → IsTrueOfBoard task id (outcome_data name (Bounded bound (Some (cost, plan)) cause))
+    → Leads task.rule task.start plan.items task.goal cost × (bound < cost)
+
+-- and the cause that it names is true
+abbrev pub CausesAreTrue : Type 0
+CausesAreTrue =
+    (task : Task) (id name : List ℕ) (bound : ℕ) (best : Option (ℕ × Vec Move Global)) (cause : Cause)
+    → IsTrueOfBoard task id (outcome_data name (Bounded bound best cause))
+    → AllowsCause bound cause
+
 -- and a report that is true of a board has the name of its line
 abbrev pub ReportsAreNamed : Type 0
 ReportsAreNamed = (task : Task) (id name : List ℕ) (ending : Ending) → IsTrueOfBoard task id (outcome_data name ending) → name ≡ id
+
+-- ---- what is taken from an output that tells the truth
+
+-- what is true of a board says a least plan, or that there is none, or a bound
+abbrev pub BoardsAreAnswered : Type 0
+BoardsAreAnswered = (task : Task) (id : List ℕ) (d : Data) → IsTrueOfBoard task id d → SaysLeast task d ⊎ SaysNone task d ⊎ SaysBound task d
+
+-- a line that names a board is refused by V3 alone, with its own number, and only where the rules allow that memory is refused for the board
+abbrev pub RefusedBoardsLackMemory : Rules → Type 0
+RefusedBoardsLackMemory rules =
+    (lines : List (List ℕ)) (output : List ℕ) (k n m : ℕ) (line id code : List ℕ) (b : BoardModel)
+    → TellsTheTruth rules lines output
+    → IsQuestion lines k n line
+    → Names rules.grid line id b
+    → IsReply output k (refused_data code m)
+    → (code ≡ codes "V3") × (m ≡ n) × rules.allows b None
+
+-- a line with a fault is refused by the code of that fault alone, with its own number
+abbrev pub RefusedLinesAreFaulty : Rules → Type 0
+RefusedLinesAreFaulty rules =
+    (lines : List (List ℕ)) (output : List ℕ) (k n m : ℕ) (line code fault : List ℕ)
+    → TellsTheTruth rules lines output
+    → IsQuestion lines k n line
+    → HasFault rules.grid line fault
+    → IsReply output k (refused_data code m)
+    → (code ≡ fault) × (m ≡ n)
+
+-- each line of the output is read as JSON
+abbrev pub OutputLinesAreRead : Rules → Type 0
+OutputLinesAreRead rules = (lines : List (List ℕ)) (output : List ℕ) (k : ℕ) (line : List ℕ) → TellsTheTruth rules lines output → slice_get (lines_of output) k ≡ Some line → (d : Data) × Reads line d
+
+-- an empty output doesn't tell the truth of a line that asks for an answer
+abbrev pub SilenceIsNoTruth : Rules → Type 0
+SilenceIsNoTruth rules = (line : List ℕ) → asks line ≡ true → ¬ TellsTheTruth rules (line ∷ []) []
+
+-- where all lines of an output are decided, none is refused
+abbrev pub DecidedLinesAreAccepted : Type 0
+DecidedLinesAreAccepted = (output : List ℕ) (k m : ℕ) (code : List ℕ) → AreAllDecided output → ¬ IsReply output k (refused_data code m)
+
+-- and none is bounded
+abbrev pub DecidedLinesAreSettled : Type 0
+DecidedLinesAreSettled =
+    (output : List ℕ) (k bound : ℕ) (id : List ℕ) (best : Option (ℕ × Vec Move Global)) (cause : Cause) → AreAllDecided output → ¬ IsReply output k (outcome_data id (Bounded bound best cause))

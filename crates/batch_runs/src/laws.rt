@@ -4,6 +4,11 @@ ghost use Rattle.batch_runs.specs.Headline.{AnswersTellTheTruth, BeginningsAreOf
 ghost use Rattle.batch_runs.specs.Headline.{BatchOutputsTellTheTruth, BeginningsTellTheTruth};
 ghost use Rattle.batch_runs.specs.Laws.{BatchLinesAreLostToFailures, OutputsAreAnswers};
 ghost use Rattle.batch_runs.specs.Laws.{FailedWritesAreTold, ReportsAreNamed};
+ghost use Rattle.batch_runs.specs.Laws.{WriteFaultsAreFailures, ReadFaultsAreFailures};
+ghost use Rattle.batch_runs.specs.Laws.{ReasonsAreTrue, BestPlansLead, CausesAreTrue};
+ghost use Rattle.batch_runs.specs.Laws.{RefusedBoardsLackMemory, RefusedLinesAreFaulty};
+ghost use Rattle.batch_runs.specs.Laws.{OutputLinesAreRead, SilenceIsNoTruth, BoardsAreAnswered};
+ghost use Rattle.batch_runs.specs.Laws.{DecidedLinesAreAccepted, DecidedLinesAreSettled};
 ghost use Rattle.batch_runs.specs.Laws.{OptimalReportsAreLeast, UnsolvableReportsHaveNoPlan};
 ghost use Rattle.batch_runs.specs.Laws.{BoundedReportsAreBelow};
 ghost use Rattle.batch_runs.specs.Setups.{owner_by};
@@ -21,9 +26,21 @@ pub fn answers_tell_the_truth<A: Ruled>(asked: &A)
 }
 
 /// Where the input is known and the output was empty, what a run that ends well leaves there tells
-/// the truth of the input's lines.
+/// the truth of the input's lines. Where an output tells the truth, each of its lines is read, and no
+/// report is missing. A line that names a board is refused by V3 alone, and one with a fault by the
+/// code of the fault. What is true of a board says a least plan, or that there is none, or a bound;
+/// and a best plan beside the bound leads to the goal. Where all lines of an output are decided, none
+/// is refused or bounded.
 pub fn outputs_tell_the_truth<A: Ruled>(asked: &A)
-    ensures { BatchOutputsTellTheTruth (A.rules asked.now) }
+    ensures truth { BatchOutputsTellTheTruth (A.rules asked.now) }
+    ensures lines { OutputLinesAreRead (A.rules asked.now) }
+    ensures silence { SilenceIsNoTruth (A.rules asked.now) }
+    ensures boards { RefusedBoardsLackMemory (A.rules asked.now) }
+    ensures faults { RefusedLinesAreFaulty (A.rules asked.now) }
+    ensures answered { BoardsAreAnswered }
+    ensures best { BestPlansLead }
+    ensures accepted { DecidedLinesAreAccepted }
+    ensures settled { DecidedLinesAreSettled }
 {
     let _ = asked;
 }
@@ -43,10 +60,13 @@ pub fn beginnings_are_of_lines()
 {}
 
 /// Where the input is known and the output was empty, a run that ends well leaves an answer to each
-/// line; and a sink fails only in a run that says so.
+/// line; and a sink fails only in a run that says so. A run says that it cannot write only where the
+/// sink has failed, and that it cannot read an input within the limit only where the source has.
 pub fn runs_are_told<A: Ruled>(asked: &A)
     ensures outputs { OutputsAreAnswers (A.rules asked.now) }
     ensures failures { FailedWritesAreTold (A.rules asked.now) }
+    ensures write_faults { WriteFaultsAreFailures (A.rules asked.now) }
+    ensures read_faults { ReadFaultsAreFailures (A.rules asked.now) }
 {
     let _ = asked;
 }
@@ -58,12 +78,15 @@ pub fn lines_are_lost_to_failures()
 {}
 
 /// A report of an ending that is true of a board says the truth of its plans: one is least, there is
-/// none, or none costs less than the bound. It has the name of the board's line.
-#[tactic(auto, using(crate::proofs::TruthLemmas::reported_least, crate::proofs::TruthLemmas::reported_none, crate::proofs::TruthLemmas::reported_bound, crate::proofs::TruthLemmas::reported_name))]
+/// none, or none costs less than the bound. The reason and the cause that it names are true. It has
+/// the name of the board's line.
+#[tactic(auto, using(crate::proofs::TruthLemmas::reported_least, crate::proofs::TruthLemmas::reported_none, crate::proofs::TruthLemmas::reported_why, crate::proofs::TruthLemmas::reported_bound, crate::proofs::TruthLemmas::reported_cause, crate::proofs::TruthLemmas::reported_name))]
 pub fn reports_tell_of_plans()
     ensures optimal { OptimalReportsAreLeast }
     ensures unsolvable { UnsolvableReportsHaveNoPlan }
+    ensures reasons { ReasonsAreTrue }
     ensures bounded { BoundedReportsAreBelow }
+    ensures causes { CausesAreTrue }
     ensures named { ReportsAreNamed }
 {}
 
