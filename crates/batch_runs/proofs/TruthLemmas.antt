@@ -44,7 +44,7 @@ use Rattle.batch_runs.specs.Batches.Answer.{passed_over, refused, answered}
 use Rattle.batch_runs.specs.Batches.AnswersEntry.{by_fault, by_outcome, by_want}
 use Rattle.batch_runs.specs.declared.batch.Summary.{Summary}
 use Rattle.batch_runs.specs.Headline.{IsTrueOfBoard, TellsTheTruth}
-use Rattle.batch_runs.specs.Laws.{OptimalReportsAreLeast, UnsolvableReportsHaveNoPlan, ReasonsAreTrue, BoundedReportsAreBelow, BestPlansLead, CausesAreTrue, ReportsAreNamed, BoardsAreAnswered, RefusedBoardsLackMemory, RefusedLinesAreFaulty, OutputLinesAreRead, SilenceIsNoTruth, DecidedLinesAreAccepted, DecidedLinesAreSettled}
+use Rattle.batch_runs.specs.Laws.{OptimalReportsAreLeast, UnsolvableReportsHaveNoPlan, ReasonsAreTrue, BoundedReportsAreBelow, BestPlansLead, CausesAreTrue, ReportsAreNamed, BoardsAreAnswered, RefusedBoardsLackMemory, RefusedLinesAreFaulty, AnsweredBoardsAreTold, FaultyLinesHaveNoEnding, LinesPassedOverAreCounted, OutputLinesAreRead, SilenceIsNoTruth, DecidedLinesAreAccepted, DecidedLinesAreSettled}
 
 -- ---- a line names one board, and then it has no fault
 
@@ -464,6 +464,27 @@ pub refused_line : (rules : Rules) → RefusedLinesAreFaulty rules
 refused_line rules lines output k n m line code fault told asked faulty seen =
     let says = told.unnamed k n line (refused_data code m) asked (λ id b names. no_fault rules.grid line id fault b names faulty) seen in
     (ap letters_in says.2.1 ∙ same_code rules.grid line says.0 fault says.1 faulty, ap number_in says.2.2)
+
+-- the report of an ending isn't the report of a refused line
+no_refusal : (name : List ℕ) (ending : Ending) → ¬ HasStatus (outcome_data name ending) (codes "refused")
+no_refusal name (Optimal cost plan) e = let z = ap first_letter e in absurd (omega arith)
+no_refusal name (Unsolvable why) e = let z = ap first_letter e in absurd (omega arith)
+no_refusal name (Bounded bound best cause) e = let z = ap first_letter e in absurd (omega arith)
+
+pub board_told : (rules : Rules) → AnsweredBoardsAreTold rules
+board_told rules lines output k n line id name b ending told asked names seen = of_reply (told.named k n line id b (outcome_data name ending) asked names seen)
+  where
+    of_reply : IsTrueOfBoard (rules.task b) id (outcome_data name ending) ⊎ SaysRefused (outcome_data name ending) (codes "V3") n × rules.allows b None → IsTrueOfBoard (rules.task b) id (outcome_data name ending)
+    of_reply (inl true_of) = true_of
+    of_reply (inr (says, lacking)) = absurd (no_refusal name ending says.0)
+
+pub no_ending : (rules : Rules) → FaultyLinesHaveNoEnding rules
+no_ending rules lines output k n line fault name ending told asked faulty seen =
+    let says = told.unnamed k n line (outcome_data name ending) asked (λ id b names. no_fault rules.grid line id fault b names faulty) seen in
+    no_refusal name ending says.2.0
+
+pub passed_counted : LinesPassedOverAreCounted
+passed_counted passed line over asking = rw (over, asking) refl
 
 pub line_read : (rules : Rules) → OutputLinesAreRead rules
 line_read rules lines output k line told at =

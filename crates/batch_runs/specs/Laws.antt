@@ -121,6 +121,29 @@ RefusedLinesAreFaulty rules =
     → IsReply output k (refused_data code m)
     → (code ≡ fault) × (m ≡ n)
 
+-- where a line that names a board is answered by the report of an ending, the report is true of that board, and has the id of that line
+abbrev pub AnsweredBoardsAreTold : Rules → Type 0
+AnsweredBoardsAreTold rules =
+    (lines : List (List ℕ)) (output : List ℕ) (k n : ℕ) (line id name : List ℕ) (b : BoardModel) (ending : Ending)
+    → TellsTheTruth rules lines output
+    → IsQuestion lines k n line
+    → Names rules.grid line id b
+    → IsReply output k (outcome_data name ending)
+    → IsTrueOfBoard (rules.task b) id (outcome_data name ending)
+
+-- a line with a fault is answered by no ending
+abbrev pub FaultyLinesHaveNoEnding : Rules → Type 0
+FaultyLinesHaveNoEnding rules =
+    (lines : List (List ℕ)) (output : List ℕ) (k n : ℕ) (line fault name : List ℕ) (ending : Ending)
+    → TellsTheTruth rules lines output
+    → IsQuestion lines k n line
+    → HasFault rules.grid line fault
+    → ¬ IsReply output k (outcome_data name ending)
+
+-- the number of a line counts the lines that are passed over before it, but its place in the output doesn't
+abbrev pub LinesPassedOverAreCounted : Type 0
+LinesPassedOverAreCounted = (passed line : List ℕ) → asks passed ≡ false → asks line ≡ true → IsQuestion (passed ∷ line ∷ []) 0 2 line
+
 -- each line of the output is read as JSON
 abbrev pub OutputLinesAreRead : Rules → Type 0
 OutputLinesAreRead rules = (lines : List (List ℕ)) (output : List ℕ) (k : ℕ) (line : List ℕ) → TellsTheTruth rules lines output → slice_get (lines_of output) k ≡ Some line → (d : Data) × Reads line d

@@ -9,6 +9,8 @@ ghost use Rattle.batch_runs.specs.Laws.{ReasonsAreTrue, BestPlansLead, CausesAre
 ghost use Rattle.batch_runs.specs.Laws.{RefusedBoardsLackMemory, RefusedLinesAreFaulty};
 ghost use Rattle.batch_runs.specs.Laws.{OutputLinesAreRead, SilenceIsNoTruth, BoardsAreAnswered};
 ghost use Rattle.batch_runs.specs.Laws.{DecidedLinesAreAccepted, DecidedLinesAreSettled};
+ghost use Rattle.batch_runs.specs.Laws.{AnsweredBoardsAreTold, FaultyLinesHaveNoEnding};
+ghost use Rattle.batch_runs.specs.Laws.{LinesPassedOverAreCounted};
 ghost use Rattle.batch_runs.specs.Laws.{OptimalReportsAreLeast, UnsolvableReportsHaveNoPlan};
 ghost use Rattle.batch_runs.specs.Laws.{BoundedReportsAreBelow};
 ghost use Rattle.batch_runs.specs.Setups.{owner_by};
@@ -27,8 +29,9 @@ pub fn answers_tell_the_truth<A: Ruled>(asked: &A)
 
 /// Where the input is known and the output was empty, what a run that ends well leaves there tells
 /// the truth of the input's lines. Where an output tells the truth, each of its lines is read, and no
-/// report is missing. A line that names a board is refused by V3 alone, and one with a fault by the
-/// code of the fault. What is true of a board says a least plan, or that there is none, or a bound;
+/// report is missing. A line that names a board is refused by V3 alone, or what is reported of it is
+/// true of that board. One with a fault is refused by the code of the fault. Numbers of lines count
+/// those that are passed over. What is true of a board says a least plan, or that there is none, or a bound;
 /// and a best plan beside the bound leads to the goal. Where all lines of an output are decided, none
 /// is refused or bounded.
 pub fn outputs_tell_the_truth<A: Ruled>(asked: &A)
@@ -37,6 +40,9 @@ pub fn outputs_tell_the_truth<A: Ruled>(asked: &A)
     ensures silence { SilenceIsNoTruth (A.rules asked.now) }
     ensures boards { RefusedBoardsLackMemory (A.rules asked.now) }
     ensures faults { RefusedLinesAreFaulty (A.rules asked.now) }
+    ensures told { AnsweredBoardsAreTold (A.rules asked.now) }
+    ensures no_ending { FaultyLinesHaveNoEnding (A.rules asked.now) }
+    ensures numbers { LinesPassedOverAreCounted }
     ensures answered { BoardsAreAnswered }
     ensures best { BestPlansLead }
     ensures accepted { DecidedLinesAreAccepted }
