@@ -30,10 +30,10 @@ pub fn answers_tell_the_truth<A: Ruled>(asked: &A)
 /// Where the input is known and the output was empty, what a run that ends well leaves there tells
 /// the truth of the input's lines. Where an output tells the truth, each of its lines is read, and no
 /// report is missing. A line that names a board is refused by V3 alone, or what is reported of it is
-/// true of that board. One with a fault is refused by the code of the fault. Numbers of lines count
-/// those that are passed over. What is true of a board says a least plan, or that there is none, or a bound;
-/// and a best plan beside the bound leads to the goal. Where all lines of an output are decided, none
-/// is refused or bounded.
+/// true of that board. One with a fault is refused by the code of the fault. The number of a line
+/// counts those that are passed over. What is true of a board says a least plan, or that there is
+/// none, or a bound; and a best plan beside the bound leads to the goal. Where all lines of an output
+/// are decided, none is refused or bounded.
 pub fn outputs_tell_the_truth<A: Ruled>(asked: &A)
     ensures truth { BatchOutputsTellTheTruth (A.rules asked.now) }
     ensures lines { OutputLinesAreRead (A.rules asked.now) }
