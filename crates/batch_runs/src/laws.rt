@@ -28,12 +28,12 @@ pub fn answers_tell_the_truth<A: Ruled>(asked: &A)
 }
 
 /// Where the input is known and the output was empty, what a run that ends well leaves there tells
-/// the truth of the input's lines. Where an output tells the truth, each of its lines is read, and no
-/// report is missing. A line that names a board is refused by V3 alone, or what is reported of it is
-/// true of that board. One with a fault is refused by the code of the fault. The number of a line
-/// counts those that are passed over. What is true of a board says a least plan, or that there is
-/// none, or a bound; and a best plan beside the bound leads to the goal. Where all lines of an output
-/// are decided, none is refused or bounded.
+/// the truth of the input's lines. Where an output tells the truth, each of its lines is read, and
+/// no report is missing. A line that names a board is refused by V3 alone, or what is reported of
+/// it is true of that board. One with a fault is refused by the code of the fault. The number of a
+/// line counts those that are passed over. What is true of a board says a least plan, or that there
+/// is none, or a bound; and a best plan beside the bound leads to the goal. Where all lines of an
+/// output are decided, none is refused or bounded.
 pub fn outputs_tell_the_truth<A: Ruled>(asked: &A)
     ensures truth { BatchOutputsTellTheTruth (A.rules asked.now) }
     ensures lines { OutputLinesAreRead (A.rules asked.now) }
@@ -66,8 +66,9 @@ pub fn beginnings_are_of_lines()
 {}
 
 /// Where the input is known and the output was empty, a run that ends well leaves an answer to each
-/// line; and a sink fails only in a run that says so. A run says that it cannot write only where the
-/// sink has failed, and that it cannot read an input within the limit only where the source has.
+/// line; and a sink fails only in a run that says so. A run says that it cannot write only where
+/// the sink has failed, and that it cannot read an input within the limit only where the source
+/// has.
 pub fn runs_are_told<A: Ruled>(asked: &A)
     ensures outputs { OutputsAreAnswers (A.rules asked.now) }
     ensures failures { FailedWritesAreTold (A.rules asked.now) }
@@ -83,9 +84,9 @@ pub fn lines_are_lost_to_failures()
     ensures { BatchLinesAreLostToFailures }
 {}
 
-/// A report of an ending that is true of a board says the truth of its plans: one is least, there is
-/// none, or none costs less than the bound. The reason and the cause that it names are true. It has
-/// the name of the board's line.
+/// A report of an ending that is true of a board says the truth of its plans: one is least, there
+/// is none, or none costs less than the bound. The reason and the cause that it names are true. It
+/// has the name of the board's line.
 #[tactic(auto, using(crate::proofs::TruthLemmas::reported_least, crate::proofs::TruthLemmas::reported_none, crate::proofs::TruthLemmas::reported_why, crate::proofs::TruthLemmas::reported_bound, crate::proofs::TruthLemmas::reported_cause, crate::proofs::TruthLemmas::reported_name))]
 pub fn reports_tell_of_plans()
     ensures optimal { OptimalReportsAreLeast }
