@@ -167,7 +167,7 @@ AreBelow-all goal boards all = record {
     (λ has. ((all.each b).0 has).0),
     (λ is. (all.each b).1 (is, subst (λ (g : ShapeModel). place_of b < ways (cell_count g) (cell_count g)) is.sides (place_below b is.board))),
   );
-  rising = all.rising;
+  rising = λ i j d less j_in. omega (arith, all.rising i j d less j_in);
 }
 
 class_cases : (b q : BoardModel) → SameClass b q ⊎ (¬ SameClass b q)
@@ -184,3 +184,57 @@ AreBelow-on goal (suc left) k boards goal_is before all = elim (class_cases (boa
       (board_at goal.grid k ∷ more.0, subst (AreWholeClass goal) (append_assoc boards (board_at goal.grid k ∷ []) more.0) more.1)
   | inr other ↦ AreBelow-on goal left (k + 1) boards goal_is (AreBelow-same goal k boards goal_is before (omega arith) other) (omega arith)
 ]
+
+-- ---- a class is one list
+
+-- the keys of these boards rise
+abbrev Rise : List BoardModel → Type 0
+Rise boards = AllPairs (λ x y. key_of x < key_of y) boards
+
+none_in : (b : BoardModel) → Contains [] b → ⊥
+none_in b (k, k_in, is) = omega arith
+
+in_front : (b : BoardModel) (bs : List BoardModel) → Contains (b ∷ bs) b
+in_front b bs = (0, omega arith, refl)
+
+in_behind : (b : BoardModel) (bs : List BoardModel) (c : BoardModel) → Contains bs c → Contains (b ∷ bs) c
+in_behind b bs c (k, k_in, is) = (suc k, omega arith, is)
+
+-- a board of a list is its first or one of the others
+front_or_behind : (b : BoardModel) (bs : List BoardModel) (c : BoardModel) → Contains (b ∷ bs) c → (b ≡ c) ⊎ Contains bs c
+front_or_behind b bs c (zero, k_in, is) = inl is
+front_or_behind b bs c (suc k, k_in, is) = inr (k, omega arith, is)
+
+-- the first of a list whose keys rise has the least
+front_least : (b : BoardModel) (bs : List BoardModel) → Rise (b ∷ bs) → (c : BoardModel) → Contains bs c → key_of b < key_of c
+front_least b bs rising c (k, k_in, is) = subst (λ (x : BoardModel). key_of b < key_of x) is (rising 0 (suc k) c (omega arith) (omega arith))
+
+rise_behind : (b : BoardModel) (bs : List BoardModel) → Rise (b ∷ bs) → Rise bs
+rise_behind b bs rising i j d less j_in = rising (suc i) (suc j) d (omega arith) (omega arith)
+
+-- each is the first of its list, and also in the other
+fronts_same : (b c : BoardModel) (bs cs : List BoardModel) → Rise (b ∷ bs) → Rise (c ∷ cs) → Contains (c ∷ cs) b → Contains (b ∷ bs) c → b ≡ c
+fronts_same b c bs cs rising rising' b_in c_in = elim (front_or_behind c cs b b_in) [
+  | inl is ↦ sym is
+  | inr b_behind ↦ elim (front_or_behind b bs c c_in) [
+    | inl is ↦ is
+    | inr c_behind ↦ absurd (omega (arith, front_least c cs rising' b b_behind, front_least b bs rising c c_behind))
+  ]
+]
+
+-- what stands behind the first of one list does so in the other
+both_behind : (b c : BoardModel) (bs cs : List BoardModel) → Rise (b ∷ bs) → b ≡ c → (d : BoardModel) → (Contains (b ∷ bs) d → Contains (c ∷ cs) d) → Contains bs d → Contains cs d
+both_behind b c bs cs rising same d to d_in = elim (front_or_behind c cs d (to (in_behind b bs d d_in))) [
+  | inl is ↦ absurd (omega (arith, subst (λ (x : BoardModel). key_of b < key_of x) (sym (same ∙ is)) (front_least b bs rising d d_in)))
+  | inr there ↦ there
+]
+
+-- two lists of the same boards whose keys rise are one list
+pub one_rising : (bs cs : List BoardModel) → Rise bs → Rise cs → ((d : BoardModel) → Contains bs d ↔ Contains cs d) → bs ≡ cs
+one_rising [] [] rising rising' same = refl
+one_rising [] (c ∷ cs) rising rising' same = absurd (none_in c ((same c).1 (in_front c cs)))
+one_rising (b ∷ bs) [] rising rising' same = absurd (none_in b ((same b).0 (in_front b bs)))
+one_rising (b ∷ bs) (c ∷ cs) rising rising' same =
+    let fronts = fronts_same b c bs cs rising rising' ((same b).0 (in_front b bs)) ((same c).1 (in_front c cs)) in
+    let rest = one_rising bs cs (rise_behind b bs rising) (rise_behind c cs rising') (λ d. (both_behind b c bs cs rising fronts d (same d).0, both_behind c b cs bs rising' (sym fronts) d (same d).1)) in
+    λ i. fronts i ∷ rest i
