@@ -37,7 +37,8 @@ use Rattle.offers.specs.declared.offer.Offer.{Offer}
 use Rattle.offers.specs.Offers.{IsOfferOf, IsOffered, AreOffered, OfEach, Offers, item_by, IsWithin}
 use Rattle.offers.specs.Room.{goes, HasRoom}
 use Rattle.offers.proofs.OfferLemmas.{entry_is, entries_give, of_one}
-use Rattle.worker_core.specs.Expanding.{IsReady, stock, OfAll, taken, AddsUpBy, all_go, all_taken, in_turn, HasAllPlaces, HasPlaces}
+use Rattle.worker_core.specs.Expanding.{IsReady, stock, OfAll, taken, AddsUpBy, all_go, all_taken, in_turn, HasAllPlaces, HasPlaces, HasPlacesForItem, HasPlacesToExpand, left_out_by}
+use Rattle.worker_core.specs.declared.expanding.Successors.{Successors}
 use Rattle.worker_core.specs.Roles.{IsGuided, AreTaskBoards, IsGuideOf, task_of}
 use Rattle.worker_core.proofs.GuideLemmas.{none_below}
 
@@ -399,6 +400,28 @@ pub places_for_all : (me : ℕ) (lists : SearchListsModel) (offers : Offers) (co
 places_for_all me lists offers count all places =
     let d : Move × Offer = (U, record { key = 0; cost = 0; f = 0; owner = 0 }) in
     entries_give offers d (HasPlaces me lists) (λ i within. places i d (omega (arith, within, all)))
+
+-- where there are places for an item of its own, there are places for what is offered of it
+places_offered : (role : Role) (lists : SearchListsModel) (item : Option Item) (offer : Option Offer) → IfSome item (HasPlacesForItem role lists) → IsOffered role.task.sum role.owner item offer → IfSome offer (HasPlaces role.me lists)
+places_offered role lists None None has offered = tt
+places_offered role lists None (Some offer) has offered = absurd offered
+places_offered role lists (Some item) None has offered = absurd offered
+places_offered role lists (Some item) (Some offer) has offered = λ own. subst (λ (f : ℕ). 4 ≤ places_at lists.waiting f) (sym offered.adds) (has (sym offered.owned ∙ own))
+
+-- so there are all places, where there are places for each item of its own
+pub own_places : (successors : Successors) (role : Role) (worker : WorkerState) (lists : SearchListsModel) (b : BoardModel) (known : Known) (offers : Offers) → HasPlacesToExpand successors role worker lists → IsNext role.task worker b known → AreOffered role.task.sum role.owner (but (left_out_by successors known) (item_by role.task.rule b known.cost)) offers → ¬ HasAllPlaces role.me lists offers → ⊥
+own_places successors role worker lists b known offers has next offered lacking =
+    let items : Move → Option Item = but (left_out_by successors known) (item_by role.task.rule b known.cost) in
+    let places = has.entries b known next in
+    lacking (
+      has.boards,
+      (
+        places_offered role lists (items U) offers.up places.0 offered.up,
+        places_offered role lists (items L) offers.left places.1 offered.left,
+        places_offered role lists (items R) offers.right places.2 offered.right,
+        places_offered role lists (items D) offers.down places.3 offered.down,
+      ),
+    )
 
 -- ---- what an expansion makes of a worker, by the offers of four moves: one after the other
 

@@ -176,7 +176,7 @@ no_pushed : (ys : List Item) (x : Item) → length (ys ++ x ∷ []) ≡ 0 → �
 no_pushed [] x n = omega arith
 no_pushed (z ∷ zs) x n = omega arith
 
-same_last : (front front' : List Item) (last last' : Item) → front ++ last ∷ [] ≡ front' ++ last' ∷ [] → last ≡ last'
+pub same_last : (front front' : List Item) (last last' : Item) → front ++ last ∷ [] ≡ front' ++ last' ∷ [] → last ≡ last'
 same_last [] [] last last' e = cc
 same_last [] (y ∷ ys) last last' e = let n : 1 ≡ suc (length (ys ++ last' ∷ [])) = ap length e in absurd (no_pushed ys last' (omega arith))
 same_last (x ∷ xs) [] last last' e = let n : suc (length (xs ++ last ∷ [])) ≡ 1 = ap length e in absurd (no_pushed xs last (omega arith))

@@ -14,7 +14,7 @@ use Rattle.offers.specs.Room.{goes}
 use Rattle.outcomes.specs.Outcomes.{Task}
 use Rattle.search_lists.specs.Lists.{HasMoreRoom, SearchListsModel}
 use Rattle.search_lists.specs.Orders.{Guide}
-use Rattle.successor_sums.specs.ByMoves.{of_move}
+use Rattle.successor_sums.specs.ByMoves.{OfFour, four_by, of_move}
 use Rattle.successor_sums.specs.Unpacked.{but}
 use Rattle.world_model.specs.declared.limits.TheConstants.{PACKET_LIMIT}
 use Rattle.world_model.specs.declared.parts.Item.{Item}
@@ -132,6 +132,23 @@ ExpansionsLackPlaces =
     (refused : OutOfMemory) (successors : Successors) (role : Role) (worker : WorkerState) (lists : SearchListsModel)
     → IfMemoryRefused {T = ℕ} (Err (Memory refused)) (LacksPlacesToExpand successors role worker lists)
     → (b : BoardModel) × (known : Known) × (offers : Offers) × IsNext role.task worker b known × (¬ HasAllPlaces role.me lists offers)
+
+-- at the cost plus sum of an item, where the worker owns its board, there are places for four boards
+abbrev pub HasPlacesForItem : Role → SearchListsModel → Item → Type 0
+HasPlacesForItem role lists item = role.owner item.board ≡ role.me → 4 ≤ places_at lists.waiting (item.cost + role.task.sum item.board)
+
+-- There are places for four boards more, and for four at the cost plus sum of each item of the worker's own that the moves from the next
+-- board give. The move that is left out needs none.
+pub record HasPlacesToExpand (successors : Successors) (role : Role) (worker : WorkerState) (lists : SearchListsModel) : Type 0 where
+  pub boards : 4 ≤ lists.closed.room
+  pub entries : (b : BoardModel) (known : Known) → IsNext role.task worker b known → OfFour (HasPlacesForItem role lists) (four_by (but (left_out_by successors known) (item_by role.task.rule b known.cost)))
+
+-- these places are enough for an expansion: memory isn't refused then
+abbrev pub PlacesForOwnOffersAreEnough : Type 0
+PlacesForOwnOffersAreEnough =
+    (refused : OutOfMemory) (successors : Successors) (role : Role) (worker : WorkerState) (lists : SearchListsModel)
+    → HasPlacesToExpand successors role worker lists
+    → ¬ IfMemoryRefused {T = ℕ} (Err (Memory refused)) (LacksPlacesToExpand successors role worker lists)
 
 -- what is offered adds up by this guide
 abbrev pub AddsUpBy : Guide → Offer → Type 0

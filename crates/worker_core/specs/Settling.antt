@@ -53,14 +53,17 @@ LacksPlaceForLast context held lists = (front : List Item) × (last : Item) × (
 abbrev pub NothingHeldLacksNothing : Type 0 → Type 0
 NothingHeldLacksNothing S = (context : ContextModel S) (lists : SearchListsModel) → ¬ LacksPlaceForLast context [] lists
 
--- where one item is held, and its cost is no news, no place is lacking
+-- where the cost of the last item held is no news, no place is lacking
 abbrev pub NoNewsLacksNothing : Type 0 → Type 0
-NoNewsLacksNothing S = (context : ContextModel S) (item : Item) (lists : SearchListsModel) → is_news (map.get lists.closed.known (search_key item.board)) item.cost ≡ false → ¬ LacksPlaceForLast context (item ∷ []) lists
+NoNewsLacksNothing S =
+    (context : ContextModel S) (front : List Item) (last : Item) (lists : SearchListsModel)
+    → is_news (map.get lists.closed.known (search_key last.board)) last.cost ≡ false
+    → ¬ LacksPlaceForLast context (front ++ last ∷ []) lists
 
--- one place for a board, and one at its cost plus sum, are enough: memory isn't refused then
+-- one place for the board of the last item held, and one at its cost plus sum, are enough: memory isn't refused then
 abbrev pub OnePlaceIsEnough : Type 0 → Type 0
 OnePlaceIsEnough S =
-    (refused : OutOfMemory) (context : ContextModel S) (item : Item) (lists : SearchListsModel)
+    (refused : OutOfMemory) (context : ContextModel S) (front : List Item) (last : Item) (lists : SearchListsModel)
     → 0 < lists.closed.room
-    → 0 < places_at lists.waiting (item.cost + sum_of (parts_of context.tables) item.board)
-    → ¬ IfMemoryRefused {T = ℕ} (Err (Memory refused)) (LacksPlaceForLast context (item ∷ []) lists)
+    → 0 < places_at lists.waiting (last.cost + sum_of (parts_of context.tables) last.board)
+    → ¬ IfMemoryRefused {T = ℕ} (Err (Memory refused)) (LacksPlaceForLast context (front ++ last ∷ []) lists)

@@ -5,7 +5,7 @@ ghost use Rattle.worker_core.specs.Expanding.{FourPlacesAreEnough, ThreePlacesAr
 ghost use Rattle.worker_core.specs.Expanding.{OthersNeedNoPlaces, OnwardStepsAloneAreWhole};
 ghost use Rattle.worker_core.specs.Lanes.{IsAtSender, IsAtReceiver};
 ghost use Rattle.worker_core.specs.Roles.{TasksHaveGuides};
-ghost use Rattle.worker_core.specs.Expanding.{ExpansionsLackPlaces};
+ghost use Rattle.worker_core.specs.Expanding.{ExpansionsLackPlaces, PlacesForOwnOffersAreEnough};
 ghost use Rattle.worker_core.specs.Settling.{RefusedSettlesChangeNothing};
 ghost use Rattle.worker_core.specs.Settling.{NothingHeldLacksNothing, NoNewsLacksNothing};
 ghost use Rattle.worker_core.specs.Settling.{OnePlaceIsEnough};
@@ -41,7 +41,16 @@ pub fn expansions_lack_places()
     ensures { ExpansionsLackPlaces }
 {}
 
-/// Memory is refused for an item only where one is held, its cost is news, and a place is lacking.
+/// Places for four boards more, and for four at the cost plus sum of each own board to which the
+/// moves lead, are enough for an expansion. The move that is left out needs none.
+#[tactic(auto, using(crate::proofs::ExpandLemmas::own_places))]
+pub fn places_for_own_offers_are_enough()
+    ensures { PlacesForOwnOffersAreEnough }
+{}
+
+/// Memory is refused for held items only where the cost of the last one is news, and a place for
+/// its board is lacking.
+#[tactic(auto, using(crate::proofs::GuideLemmas::same_last))]
 pub fn items_lack_a_place<S: Spread>()
     ensures held { NothingHeldLacksNothing S }
     ensures news { NoNewsLacksNothing S }

@@ -12,7 +12,8 @@
 //!   worker both are the same step (`onward_steps_alone_are_whole`).
 //! - Memory is taken in `new`, `Queue::new`, `expand`, `settle` and `meet` alone, before the first
 //!   change. The last three are refused only where the lists lack places (`LacksPlacesToExpand`,
-//!   `LacksPlaceFor`; laws `expansions_lack_places`, `items_lack_a_place`).
+//!   `LacksPlaceFor`; laws `expansions_lack_places`, `places_for_own_offers_are_enough`,
+//!   `items_lack_a_place`).
 //! - `settle` drops a foreign item: of another shape, of another worker, or above `GREATEST_COST`.
 //!   No world has one.
 //! - `expand` asks for places for four boards, and four at the f of each own successor, since
