@@ -16,7 +16,7 @@ use Rattle.hda_run.specs.Jobs.{JobModel, task_in}
 use Rattle.thread_runs.specs.Solved.{IsSolved}
 use Rattle.checked_runs.specs.Certificates.{certificate_in, AreAsGood}
 use Rattle.checked_runs.specs.Checked.{IsProvedWith, IsCheckedRun, IsRefusedRun}
-use Rattle.checked_runs.specs.Laws.{BoundsAreAccepted, BoundsHaveCertificates, PlansAreAccepted, TablesFoldedFromAreAsGood, CheckedRunsAreRuns}
+use Rattle.checked_runs.specs.Laws.{BoundsAreAccepted, BoundsHaveCertificates, PlansAreAccepted, PlansHaveCertificates, TablesFoldedFromAreAsGood, CheckedRunsAreRuns, CheckedPlansAreSolved}
 use Rattle.checked_runs.specs.declared.faults.CheckedFault.{CheckedFault}
 use Rattle.checked_runs.specs.declared.faults.CheckedFault.TheVariants.{WorkerCount, Memory, Refused}
 use Rattle.std.specs.List.{AllByRecursion}
@@ -110,6 +110,11 @@ module _ {S : Type 0} (owner_of : S → ℕ → BoardModel → ℕ) where
   pub run_behind : CheckedRunsAreRuns owner_of
   run_behind p owners n outcome tables refusal = (behind_checked p owners n outcome, behind_refused p owners n tables refusal)
 
+  -- a plan that is called least is no bound, so it is theirs
+  pub plans_solved : CheckedPlansAreSolved owner_of
+  plans_solved p owners n cost plan rows (inl solved) = solved
+  plans_solved p owners n cost plan rows (inr (cost', plan', rows', refused, solved, is)) = absurd (cc)
+
 -- ---- Whole tables, and those that were folded from them.
 
 module _ (b : BoardModel) (board : IsBoard b) where
@@ -185,7 +190,11 @@ module _ (p : JobModel) (cost : ℕ) (plan : Vec Move Global) (rows : Vec (Board
 pub plans_accepted : PlansAreAccepted
 plans_accepted p tables cost plan rows task good answers = proved_with p cost plan rows answers task tables good
 
--- and so is the certificate of a bound
+-- and is one of version 2
+pub plans_certified : KeysAreInOrder → PlansHaveCertificates
+plans_certified order p cost plan rows task tables sides costs few answers = (certificate_is p cost plan rows answers task order tables sides costs few, refl)
+
+-- the certificate of a bound is accepted, too
 pub bounds_accepted : BoundsAreAccepted
 bounds_accepted p tables bound best cause rows task good answers = record {
   plan = tt;

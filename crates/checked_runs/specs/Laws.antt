@@ -1,5 +1,5 @@
 -- The laws of the tables that plans are checked with. Each is the contract of a function that does nothing.
-use Rattle.std.specs.Prelude.{◌≡◌, ◌≤◌, ◌<◌, ◌^◌, ℕ, Option, Some, None, Vec, length}
+use Rattle.std.specs.Prelude.{◌≡◌, ◌≤◌, ◌<◌, ◌^◌, ◌⊎◌, ℕ, Option, Some, None, Vec, length}
 use Rattle.std.specs.declared.alloc.Global.{Global}
 use Rattle.board.specs.declared.moves.Move.{Move}
 use Rattle.board.specs.Boards.{BoardModel}
@@ -15,6 +15,7 @@ use Rattle.world_model.specs.Shapes.{IsTask}
 use Rattle.board.specs.Plans.{Leads}
 use Rattle.board.specs.Rows.{Proves}
 use Rattle.certificate.specs.declared.certificate.TheConstants.{GREATEST_BOUND}
+use Rattle.certificate.specs.declared.certificate.Version.TheVariants.{Two}
 use Rattle.certificate.specs.Certificates.{AreCostsOf, IsCertificate}
 use Rattle.certificate_check.specs.Refusals.{IsProved, sum_in}
 use Rattle.hda_run.specs.Jobs.{JobModel, task_in}
@@ -72,12 +73,32 @@ BoundsHaveCertificates =
     → Answers (task_in p) (Bounded bound best cause (Some rows))
     → IsCertificate (bound_certificate_in p bound rows.items)
 
+-- what is made of a plan that answers a problem with its rows is a certificate of version 2, where the problem's tables and costs are
+-- those of certificates, and the count of rows fits into one
+abbrev pub PlansHaveCertificates : Type 0
+PlansHaveCertificates =
+    (p : JobModel) (cost : ℕ) (plan : Vec Move Global) (rows : Vec (BoardModel × ℕ) Global)
+    → IsTask (task_in p)
+    → IsTables p.tables
+    → p.tables.split.grid ≡ p.goal.grid
+    → AreCostsOf p.goal.grid p.rule
+    → length rows.items < 2 ^ 64
+    → Answers (task_in p) (Optimal cost plan rows)
+    → IsCertificate (certificate_in p cost plan.items rows.items) × ((certificate_in p cost plan.items rows.items).version ≡ Two)
+
 -- a plan that is called least, and is proved with these tables, leads from the problem's start to its goal at its cost, which its rows prove with their sums
 abbrev pub ProvedPlansAreLeast : Type 0
 ProvedPlansAreLeast =
     (p : JobModel) (tables : BoundModel) (cost : ℕ) (plan : Vec Move Global) (rows : Vec (BoardModel × ℕ) Global)
     → IsProvedWith p tables (Optimal cost plan rows)
     → Leads p.rule p.start plan.items p.goal cost × Proves p.rule rows.items (sum_in tables) p.start p.goal cost
+
+-- where the certificate of a bound is proved with these tables, its rows prove the bound with their sums, from the problem's start to its goal
+abbrev pub ProvedBoundsHold : Type 0
+ProvedBoundsHold =
+    (p : JobModel) (tables : BoundModel) (bound : ℕ) (rows : Vec (BoardModel × ℕ) Global)
+    → IsProved (bound_certificate_in p bound rows.items) tables
+    → Proves p.rule rows.items (sum_in tables) p.start p.goal bound
 
 module _ {S : Type 0} (owner_of : S → ℕ → BoardModel → ℕ) where
   -- where memory was refused for the groups of a plan's certificate, the bound is the plan's cost
@@ -94,3 +115,18 @@ module _ {S : Type 0} (owner_of : S → ℕ → BoardModel → ℕ) where
       (p : JobModel) (owners : S) (n : ℕ) (outcome : Outcome) (tables : BoundModel) (refusal : Refusal)
       → (IsCheckedRun owner_of p owners n outcome → (given : Outcome) × IsSolved owner_of p owners n given)
       × (IsRefusedRun owner_of p owners n tables refusal → (given : Outcome) × IsSolved owner_of p owners n given)
+
+  -- the plan that a checked run calls least is that of n workers, or of one alone
+  abbrev pub CheckedPlansAreSolved : Type 0
+  CheckedPlansAreSolved =
+      (p : JobModel) (owners : S) (n : ℕ) (cost : ℕ) (plan : Vec Move Global) (rows : Vec (BoardModel × ℕ) Global)
+      → IsCheckedRun owner_of p owners n (Optimal cost plan rows)
+      → IsSolved owner_of p owners n (Optimal cost plan rows)
+
+  -- an outcome of a checked run is that of n workers, or of one alone, or gives the cost of a plan of theirs, for whose groups memory was
+  -- refused
+  abbrev pub CheckedRunsAreTheirs : Type 0
+  CheckedRunsAreTheirs =
+      (p : JobModel) (owners : S) (n : ℕ) (outcome : Outcome)
+      → IsCheckedRun owner_of p owners n outcome
+      → IsSolved owner_of p owners n outcome ⊎ IsUncertifiedPlan owner_of p owners n outcome

@@ -2,7 +2,9 @@
 
 ghost use Rattle.checked_runs.specs.Laws.{OwnTablesAreAsGood, TablesFoldedFromAreAsGood};
 ghost use Rattle.checked_runs.specs.Laws.{BoundsAreAccepted, PlansAreAccepted, ProvedPlansAreLeast};
-ghost use Rattle.checked_runs.specs.Laws.{BoundsHaveCertificates, CheckedRunsAreRuns};
+ghost use Rattle.checked_runs.specs.Laws.{BoundsHaveCertificates, PlansHaveCertificates};
+ghost use Rattle.checked_runs.specs.Laws.{ProvedBoundsHold, CheckedRunsAreRuns};
+ghost use Rattle.checked_runs.specs.Laws.{CheckedPlansAreSolved, CheckedRunsAreTheirs};
 ghost use Rattle.checked_runs.specs.Laws.{UncertifiedPlansGiveTheirCost};
 
 use board::laws::keys_are_in_order;
@@ -32,14 +34,24 @@ pub fn bounds_are_accepted()
 
 /// The checker accepts the plan and the rows of each optimal outcome that answers a problem, with
 /// tables as good. `World::finish`, `solve` and `solve_one` ensure `Answers`, so it accepts theirs.
+/// They make a certificate of version 2.
 pub fn plans_are_accepted()
-    ensures { PlansAreAccepted }
-{}
+    ensures accepted { PlansAreAccepted }
+    ensures certificates { PlansHaveCertificates }
+{
+    keys_are_in_order();
+}
 
 /// A plan that is called least, and is proved with tables, leads to the goal at its cost, which its
 /// rows prove with the sums of these tables.
 pub fn proved_plans_are_least()
     ensures { ProvedPlansAreLeast }
+{}
+
+/// The rows of a bound's certificate that is proved with tables prove the bound with the sums of
+/// these tables, from the problem's start to its goal.
+pub fn proved_bounds_hold()
+    ensures { ProvedBoundsHold }
 {}
 
 /// For the outcome of a checked run, and for a certificate that is refused, there is an outcome
@@ -49,4 +61,12 @@ pub fn proved_plans_are_least()
 pub fn checked_runs_are_runs<S: Spread>()
     ensures runs { CheckedRunsAreRuns S.owner_of }
     ensures costs { UncertifiedPlansGiveTheirCost S.owner_of }
+{}
+
+/// A plan that a checked run calls least is that of n workers, or of one alone. So is each other
+/// outcome, unless it is the cost of their plan, for whose groups memory was refused.
+#[tactic(auto, using(crate::proofs::OutcomeLemmas::plans_solved))]
+pub fn checked_plans_are_solved<S: Spread>()
+    ensures plans { CheckedPlansAreSolved S.owner_of }
+    ensures others { CheckedRunsAreTheirs S.owner_of }
 {}
