@@ -4,6 +4,7 @@ use Rattle.board.specs.Boards.{BoardModel}
 use Rattle.outcomes.specs.declared.outcome.Want.TheVariants.{Stated}
 use Rattle.world_model.specs.declared.limits.TheConstants.{GREATEST_GRANT}
 use Rattle.world_model.specs.declared.steps.Stop.TheVariants.{Quiet, Limit, Memory}
+use Rattle.world_model.specs.Books.{BookState}
 use Rattle.world_model.specs.Credit.{expansion_count}
 use Rattle.world_model.specs.Openings.{Job}
 use Rattle.world_model.specs.Quiet.{IsKept}
@@ -39,6 +40,10 @@ GivesIfKept gives w (Some answer) = IsKept w × gives w answer
 -- What n threads find: their joined workers make a world, and this is found of it.
 abbrev pub IsFoundByThreads : {S X : Type 0} → (WorldState → X → Type 0) → (S → ℕ → BoardModel → ℕ) → JobModel → S → ℕ → Option X → Type 0
 IsFoundByThreads gives owner_of p owners n found = (w : WorldState) × IsJoined (job_of owner_of p owners n) w × GivesIfKept gives w found
+
+-- The same, where the book that the threads shared, and left so, is that of the world. So it says why the run stopped.
+abbrev pub IsFoundWithBook : {S X : Type 0} → (WorldState → X → Type 0) → (S → ℕ → BoardModel → ℕ) → JobModel → S → ℕ → BookState → Option X → Type 0
+IsFoundWithBook gives owner_of p owners n book found = (w : WorldState) × IsJoined (job_of owner_of p owners n) w × (w.book ≡ book) × GivesIfKept gives w found
 
 -- the parts of n workers that share a problem and own boards alike, each at its place, with both ends of each ring between them
 pub record IsJoint {S : Type 0} (p : JobModel) (owners : S) (n : ℕ) (faces : List (SealedModel S)) : Type 0 where

@@ -5,7 +5,7 @@ ghost use Rattle.world_model.specs.Books.{BookState};
 ghost use Rattle.world_model.specs.Worlds.{WorldState};
 ghost use Rattle.world_ends.specs.Parts.{states_of};
 ghost use Rattle.thread_joins.specs.Threads.{IsJoint};
-ghost use Rattle.thread_joins.specs.Threads.{IsFoundByThreads, GivesIfKept};
+ghost use Rattle.thread_joins.specs.Threads.{IsFoundByThreads, IsFoundWithBook, GivesIfKept};
 ghost use Rattle.thread_joins.specs.Worlds.{IsWorldOf};
 
 use crate::apart::Joined;
@@ -30,8 +30,8 @@ use world_model::Stop;
 /// The outcome of a run whose threads were all joined. None exactly where the world that their
 /// parts make is not kept: a thread could not be started, or the book says what the workers do not
 /// bear out. The error is that memory was refused for taking the parts apart. The contract says it
-/// of some world of joined workers, since contracts don't see into sealed parts; `outcome_if_kept`
-/// says it of each world that these parts make.
+/// of some world of joined workers that has the team's book, since contracts don't see into sealed
+/// parts; `outcome_if_kept` says it of each world that these parts make.
 pub fn outcome_of_joined<A: Reading, S: Spread, L: Ledger + Send + Sync, M: Capped + Send + Sync>(
     alloc: Global,
     search: &Search<'_, S>,
@@ -40,8 +40,10 @@ pub fn outcome_of_joined<A: Reading, S: Spread, L: Ledger + Send + Sync, M: Capp
     requires count { search.now.workers ≡ M.parts }
     requires limit { search.now.job.limit ≡ M.limit }
     requires joint { IsJoint search.now.job search.now.owners.now M.parts team.parts.items }
-    ensures { IfOk result (IsFoundByThreads A.gives S.owner_of search.now.job
+    ensures found { IfOk result (IsFoundByThreads A.gives S.owner_of search.now.job
         search.now.owners.now M.parts) }
+    ensures book { IfOk result (IsFoundWithBook A.gives S.owner_of search.now.job
+        search.now.owners.now M.parts team.entry.book) }
 {
     let Team {
         parts,

@@ -59,4 +59,6 @@ returns g c =
     let limit : book.limit ≡ p.limit = c.stop.ensures.allowed ∙ sym c.requires.limit in
     let at_limit : book.stop ≡ Some Limit → book.granted ≡ book.limit = λ stopped. c.stop.ensures.limit (c.stop.ensures.value ∙ stopped) in
     let no_list : book.stop ≢ Some (Memory Stated) = λ stopped. c.stop.ensures.want Stated (c.stop.ensures.value ∙ stopped) refl in
-    (w, joined_is owner_of p owners n book c.deref_mut.result.now joined.ins.items w expanded is limit sum within high c.stop.ensures.within at_limit no_list, c.outcome_if_kept-found.ensures.given w is)
+    let is_joined = joined_is owner_of p owners n book c.deref_mut.result.now joined.ins.items w expanded is limit sum within high c.stop.ensures.within at_limit no_list in
+    let given = c.outcome_if_kept-found.ensures.given w is in
+    record { found = (w, is_joined, given); book = (w, is_joined, has.1.book_is, given) }
