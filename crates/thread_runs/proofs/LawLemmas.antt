@@ -12,7 +12,7 @@ use Rattle.world_model.specs.Worlds.{WorldState}
 use Rattle.world_ends.specs.Endings.{EndsIn}
 use Rattle.world_ends.proofs.PartLemmas.{bounds_alone, rows_alone}
 use Rattle.hda_run.specs.WholeRuns.{IsOfWholeRun}
-use Rattle.thread_runs.specs.Laws.{HasItsRows, IsLimitCostOrMemory, WholeRunsSayWhy, OneIsAlone, SolvedRunsEnd, LimitsAreKept, ThreadsAreAsAsked}
+use Rattle.thread_runs.specs.Laws.{HasItsRows, IsLimitCostOrMemory, WholeRunsSayWhy, OneIsAlone, SeveralAreJoined, SolvedRunsEnd, LimitsAreKept, ThreadsAreAsAsked}
 
 named : (cause : Cause) → IsOfWholeRun cause → IsLimitCostOrMemory cause
 named Limit whole = inl refl
@@ -41,6 +41,11 @@ module _ {S X : Type 0} (gives : WorldState → X → Type 0) (owner_of : S → 
   pub one_alone : OneIsAlone gives owner_of
   one_alone p owners it (inl (several, by)) = absurd (omega (arith, several))
   one_alone p owners it (inr (run, left)) = run
+
+  pub several_joined : SeveralAreJoined gives owner_of
+  several_joined p owners n it (inl (several, (w, joined, (kept, given)))) enough = inl (w, joined, kept, given)
+  several_joined p owners n it (inr (run, inl one)) enough = absurd (omega (arith, one, enough))
+  several_joined p owners n it (inr (run, inr left)) enough = inr (run, left)
 
   pub limits_kept : LimitsAreKept gives owner_of
   limits_kept p owners n it (inl (several, (w, joined, (kept, given)))) = (w, given, joined.within_limit)

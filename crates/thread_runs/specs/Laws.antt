@@ -12,12 +12,14 @@ use Rattle.outcomes.specs.declared.outcome.Outcome.{Outcome}
 use Rattle.outcomes.specs.declared.outcome.Outcome.TheVariants as outcome
 use Rattle.outcomes.specs.Endings.{without_rows}
 use Rattle.world_model.specs.Credit.{expansion_count}
+use Rattle.world_model.specs.Quiet.{IsKept}
 use Rattle.world_model.specs.Worlds.{WorldState}
 use Rattle.world_ends.specs.Endings.{EndsIn}
 use Rattle.hda_run.specs.Alone.{IsFoundAlone}
 use Rattle.hda_run.specs.Jobs.{JobModel}
 use Rattle.hda_run.specs.WholeRuns.{EndsWholeRun}
-use Rattle.thread_joins.specs.Threads.{IsFoundByThreads}
+use Rattle.hda_run.specs.Worlds.{job_of}
+use Rattle.thread_joins.specs.Threads.{IsJoined, IsFoundByThreads}
 use Rattle.thread_runs.specs.Solved.{IsFoundByWorkers, IsSolved}
 
 -- the cause is the limit, or that each plan costs more than a run may reach, or that memory was refused
@@ -43,6 +45,16 @@ module _ {S X : Type 0} (gives : WorldState → X → Type 0) (owner_of : S → 
   -- what is found by one worker is found by it alone
   abbrev pub OneIsAlone : Type 0
   OneIsAlone = (p : JobModel) (owners : S) (it : X) → IsFoundByWorkers gives owner_of p owners 1 it → IsFoundAlone gives owner_of p owners it
+
+  -- What several workers find is given by a world of their joined threads that is kept. Or one worker finds it alone, and there is such a
+  -- world that is not kept.
+  abbrev pub SeveralAreJoined : Type 0
+  SeveralAreJoined =
+      (p : JobModel) (owners : S) (n : ℕ) (it : X)
+      → IsFoundByWorkers gives owner_of p owners n it
+      → 2 ≤ n
+      → ((w : WorldState) × IsJoined (job_of owner_of p owners n) w × IsKept w × gives w it)
+      ⊎ (IsFoundAlone gives owner_of p owners it × ((w : WorldState) × IsJoined (job_of owner_of p owners n) w × (¬ IsKept w)))
 
   -- the world that gives what is found has expanded no more boards than the problem's limit
   abbrev pub LimitsAreKept : Type 0

@@ -1,8 +1,8 @@
 //! The laws of what n workers answer: each is the contract of a function that does nothing.
 
 ghost use Rattle.owners.specs.Owners.{AreWorkers};
-ghost use Rattle.thread_runs.specs.Laws.{OneIsAlone, SolvedRunsEnd, LimitsAreKept};
-ghost use Rattle.thread_runs.specs.Laws.{ThreadsAreAsAsked, WholeRunsSayWhy};
+ghost use Rattle.thread_runs.specs.Laws.{OneIsAlone, SeveralAreJoined, SolvedRunsEnd};
+ghost use Rattle.thread_runs.specs.Laws.{LimitsAreKept, ThreadsAreAsAsked, WholeRunsSayWhy};
 
 use owners::Spread;
 use world_ends::Reading;
@@ -16,6 +16,13 @@ pub fn owners_are_workers<S: Spread>()
 #[tactic(auto, using(crate::proofs::LawLemmas::one_alone))]
 pub fn one_is_alone<A: Reading, S: Spread>()
     ensures { OneIsAlone A.gives S.owner_of }
+{}
+
+/// What several workers find is given by a world of their joined threads that is kept. Or one
+/// worker finds it alone, and there is such a world that is not kept.
+#[tactic(auto, using(crate::proofs::LawLemmas::several_joined))]
+pub fn several_are_joined<A: Reading, S: Spread>()
+    ensures { SeveralAreJoined A.gives S.owner_of }
 {}
 
 /// What is solved ends so without rows.
