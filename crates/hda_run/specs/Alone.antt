@@ -3,7 +3,6 @@ use Rattle.std.specs.Prelude.{ℕ, ◌≡◌, ◌≤◌, ⊤, List, [], ◌∷�
 use Rattle.memory.specs.declared.OutOfMemory.{OutOfMemory}
 use Rattle.board.specs.declared.moves.Move.{Move}
 use Rattle.board.specs.Boards.{BoardModel}
-use Rattle.outcomes.specs.declared.outcome.Outcome.{Outcome}
 use Rattle.outcomes.specs.declared.outcome.Want.TheVariants.{Refused}
 use Rattle.world_model.specs.declared.steps.HaltCause.TheVariants as causes
 use Rattle.world_model.specs.declared.steps.Refusal.{Refusal}
@@ -14,7 +13,6 @@ use Rattle.world_model.specs.declared.steps.Stop.{Stop}
 use Rattle.world_model.specs.declared.steps.Stop.TheVariants as stops
 use Rattle.world_model.specs.Credit.{expansion_count}
 use Rattle.world_model.specs.Openings.{Job, opening}
-use Rattle.world_model.specs.Outcomes.{IsGiven}
 use Rattle.world_model.specs.Steps.{IsRun}
 use Rattle.world_model.specs.Worlds.{WorldState}
 use Rattle.hda_run.specs.Jobs.{JobModel}
@@ -61,7 +59,3 @@ pub record IsRunAlone (job : Job) (w : WorldState) : Type 0 where
 -- the answer is one that the world of such a run by one worker gives
 abbrev pub IsFoundAlone : {S X : Type 0} → (WorldState → X → Type 0) → (S → ℕ → BoardModel → ℕ) → JobModel → S → X → Type 0
 IsFoundAlone gives owner_of p owners answer = (w : WorldState) × IsRunAlone (job_of owner_of p owners 1) w × gives w answer
-
--- the outcome is one that such a world gives
-abbrev pub IsByOne : {S : Type 0} → (S → ℕ → BoardModel → ℕ) → JobModel → S → Outcome → Type 0
-IsByOne owner_of p owners outcome = IsFoundAlone IsGiven owner_of p owners outcome

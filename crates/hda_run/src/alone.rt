@@ -13,9 +13,10 @@ ghost use Rattle.outcomes.specs.declared.outcome.Outcome.TheVariants.{Bounded, U
 ghost use Rattle.outcomes.specs.declared.outcome.Why.TheVariants.{Parity};
 ghost use Rattle.world_model.specs.declared.steps.Refusal.{Refusal};
 ghost use Rattle.world_model.specs.declared.steps.Step.{Step};
+ghost use Rattle.world_model.specs.Outcomes.{IsGiven};
 ghost use Rattle.world_model.specs.Steps.{Next};
 ghost use Rattle.world_model.specs.Turns.{turn, refusal_in};
-ghost use Rattle.hda_run.specs.Alone.{IsRunAlone, IsFoundAlone, IsByOne};
+ghost use Rattle.hda_run.specs.Alone.{IsRunAlone, IsFoundAlone};
 ghost use Rattle.hda_run.specs.Jobs.{task_in};
 ghost use Rattle.hda_run.specs.Rounds.{IsLone, Reaches, work_left, RefusesStep, IsStuck};
 ghost use Rattle.hda_run.specs.Rounds.{IsBoundSoFar, Stops};
@@ -57,7 +58,7 @@ pub fn solve_one<'a, S: Spread, G: Gate>(
     ensures parity { (result ≡ Ok (Unsolvable Parity))
         ↔ (¬ SameClass job.entry.start job.entry.goal) }
     ensures run { SameClass job.entry.start job.entry.goal
-        → IfOk result (IsByOne S.owner_of job.entry spread.now) }
+        → IfOk result (IsFoundAlone IsGiven S.owner_of job.entry spread.now) }
     ensures answers { IfOk result (Answers (task_in job.entry)) }
     ensures kept { IfOk result (λ outcome. (bound : ℕ) (best : Option (ℕ × Vec Move Global))
         (cause : Cause) (rows : Option (Vec (BoardModel × ℕ) Global))
