@@ -5,6 +5,7 @@ use Rattle.std.specs.declared.alloc.Global.{Global}
 use Rattle.std.proofs.lemmas.List.Elements.{All-contains, Contains-append_cases, Contains-append_right}
 use Rattle.board.specs.declared.moves.Move.{Move}
 use Rattle.board.specs.Boards.{BoardModel, blank_of}
+use Rattle.board.specs.Plans.{Leads}
 use Rattle.board.specs.Rows.{IsLowerBound}
 use Rattle.outcomes.specs.declared.outcome.Cause.{Cause}
 use Rattle.outcomes.specs.declared.outcome.Cause.TheVariants.{Cut, Start, Memory, Limit as ForLimit}
@@ -42,7 +43,7 @@ use Rattle.hda_run.specs.WholeRuns.{IsOfWholeRun, EndsWholeRun, HasWholeRun}
 use Rattle.hda_run.specs.Alone.{AreLast, IsRunAlone, HaltsNowhere, IsHalt}
 use Rattle.hda_run.specs.Headline.{TellsTruth, IsTrueOfBest}
 use Rattle.hda_run.specs.Jobs.{JobModel, task_in}
-use Rattle.hda_run.specs.Laws.{BoundsSpendTheLimit, BoundTruthsAreBelow, HaltsAreDue, OptimalTruthsAgree, OutcomesAreOfTheirSteps, QuietRunsHaveNoHalt, RunsAloneStop, TrueBoundsHaveProofs, TrueRowsProve, TrueRowsProveBounds, UnsolvableTruthsHaveNoPlan, WithoutRowsMemoryWasRefused}
+use Rattle.hda_run.specs.Laws.{BoundsSpendTheLimit, BoundTruthsAreBelow, HaltsAreDue, OptimalTruthsAgree, OutcomesAreOfAllTheirSteps, OutcomesAreOfTheirSteps, QuietRunsHaveNoHalt, RunsAloneStop, TrueBoundsHaveProofs, TruePlansLead, TrueRowsProve, TrueRowsProveBounds, UnsolvableTruthsHaveNoPlan, WithoutRowsMemoryWasRefused}
 use Rattle.hda_run.proofs.AloneLemmas.{Made}
 
 -- ---- what one worker that is alone answers
@@ -209,6 +210,13 @@ unsolvable p why none = ((λ cost plan rows told. none plan.items cost told.0), 
     beside bound cost plan cause (Some rows) told = none plan.items cost told.1
     beside bound cost plan cause None told = let e : ◌≡◌ {A = Option (ℕ × Vec Move Global)} (Some (cost, plan)) None = told.1.0 in absurd (cc)
 
+pub plans_lead : TruePlansLead
+plans_lead p cost plan = ((λ rows told. told.0), beside)
+  where
+    beside : (bound : ℕ) (cause : Cause) (rows : Option (Vec (BoardModel × ℕ) Global)) → TellsTruth p (Bounded bound (Some (cost, plan)) cause rows) → Leads p.rule p.start plan.items p.goal cost
+    beside bound cause (Some rows) told = told.1
+    beside bound cause None told = let e : ◌≡◌ {A = Option (ℕ × Vec Move Global)} (Some (cost, plan)) None = told.1.0 in absurd (cc)
+
 pub rows_prove : TrueRowsProve
 rows_prove p cost plan rows told = told.2.proves
 
@@ -238,3 +246,6 @@ of_one job step outcome via (m ∷ n ∷ rest) w same run given = absurd (let n 
 
 pub of_steps : OutcomesAreOfTheirSteps
 of_steps job step outcome is = of_one job step outcome is.via is.made is.world is.same is.run is.given
+
+pub of_all_steps : OutcomesAreOfAllTheirSteps
+of_all_steps job steps outcome is = (is.via, is.made, is.world, is.same, is.run, is.given)

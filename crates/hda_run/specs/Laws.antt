@@ -1,5 +1,5 @@
 -- The laws of the definitions. Each is the contract of a function that does nothing.
-use Rattle.std.specs.Prelude.{ℕ, ◌≡◌, ◌≢◌, ◌<◌, ◌≤◌, List, [], ◌∷◌, length, replicate, slice_index_or, All, Contains, Vec, Option, Some, None}
+use Rattle.std.specs.Prelude.{ℕ, ◌≡◌, ◌≢◌, ◌<◌, ◌≤◌, List, [], ◌∷◌, length, map, replicate, slice_index_or, All, Contains, Vec, Option, Some, None}
 use Rattle.std.specs.declared.alloc.Global.{Global}
 use Rattle.memory.specs.declared.OutOfMemory.{OutOfMemory}
 use Rattle.board.specs.declared.moves.Move.{Move}
@@ -17,7 +17,7 @@ use Rattle.world_model.specs.declared.steps.HaltCause.{HaltCause}
 use Rattle.world_model.specs.declared.steps.Refusal.{Refusal}
 use Rattle.world_model.specs.declared.steps.Refusal.TheVariants as refusals
 use Rattle.world_model.specs.declared.steps.Step.{Step}
-use Rattle.world_model.specs.declared.steps.Step.TheVariants.{Expand, Grant, Halt}
+use Rattle.world_model.specs.declared.steps.Step.TheVariants.{Expand, Settle, Send, Deliver, Draw, Announce, Grant, Rest, Halt}
 use Rattle.world_model.specs.declared.steps.Stop.TheVariants as stops
 use Rattle.search_lists.specs.Lists.{SearchListsModel}
 use Rattle.world_model.specs.declared.parts.Known.{Known}
@@ -31,8 +31,10 @@ use Rattle.world_model.specs.Worlds.{WorldState, Knows}
 use Rattle.hda_run.specs.Alone.{IsRunAlone}
 use Rattle.hda_run.specs.Headline.{IsOfSteps, TellsTruth}
 use Rattle.hda_run.specs.Jobs.{JobModel, task_in}
+use Rattle.hda_run.specs.Kinds.{step_kind_of}
 use Rattle.hda_run.specs.Rounds.{IsBoundSoFar, IsWithoutBound}
 use Rattle.hda_run.specs.Worlds.{world_of, job_of, WaitsFrom}
+use Rattle.hda_run.specs.declared.gates.Kind.TheVariants as kinds
 use Rattle.hda_run.specs.declared.parts.Parts.{Parts}
 
 -- ---- one worker alone
@@ -117,6 +119,13 @@ UnsolvableTruthsHaveNoPlan =
     → ((cost : ℕ) (plan : Vec Move Global) (rows : Vec (BoardModel × ℕ) Global) → ¬ TellsTruth p (Optimal cost plan rows))
     × ((bound cost : ℕ) (plan : Vec Move Global) (cause : Cause) (rows : Option (Vec (BoardModel × ℕ) Global)) → ¬ TellsTruth p (Bounded bound (Some (cost, plan)) cause rows))
 
+-- a plan that is told leads from the start to the goal at the cost that is told with it, as the best one or beside a bound
+abbrev pub TruePlansLead : Type 0
+TruePlansLead =
+    (p : JobModel) (cost : ℕ) (plan : Vec Move Global)
+    → ((rows : Vec (BoardModel × ℕ) Global) → TellsTruth p (Optimal cost plan rows) → Leads p.rule p.start plan.items p.goal cost)
+    × ((bound : ℕ) (cause : Cause) (rows : Option (Vec (BoardModel × ℕ) Global)) → TellsTruth p (Bounded bound (Some (cost, plan)) cause rows) → Leads p.rule p.start plan.items p.goal cost)
+
 -- the rows of an optimal outcome prove its cost with the sums of the problem's tables
 abbrev pub TrueRowsProve : Type 0
 TrueRowsProve =
@@ -151,6 +160,29 @@ OutcomesAreOfTheirSteps =
     (job : Job) (step : Step) (outcome : Outcome)
     → IsOfSteps job (step ∷ []) outcome
     → (via : Move) × (answer : Option Refusal) × (w : WorldState) × Next step (turn (opening job via) answer w) × IsGiven w outcome
+
+-- and that of any steps by a world to which just these lead, in their order
+abbrev pub OutcomesAreOfAllTheirSteps : Type 0
+OutcomesAreOfAllTheirSteps =
+    (job : Job) (steps : List Step) (outcome : Outcome)
+    → IsOfSteps job steps outcome
+    → (via : Move) × (made : List (Step × Option Refusal)) × (w : WorldState) × (map (λ made. made.0) made ≡ steps) × IsRun (opening job via) made w × IsGiven w outcome
+
+-- ---- steps by their names
+
+-- a step is of the kind that has its name
+abbrev pub KindsAreNamed : Type 0
+KindsAreNamed =
+    (i j : ℕ) (cause : HaltCause)
+    → (step_kind_of (Expand i) ≡ kinds.Expand)
+    × (step_kind_of (Settle i) ≡ kinds.Settle)
+    × (step_kind_of (Send i j) ≡ kinds.Send)
+    × (step_kind_of (Deliver i j) ≡ kinds.Deliver)
+    × (step_kind_of (Draw i) ≡ kinds.Draw)
+    × (step_kind_of (Announce i) ≡ kinds.Announce)
+    × (step_kind_of (Grant i) ≡ kinds.Grant)
+    × (step_kind_of (Rest i) ≡ kinds.Rest)
+    × (step_kind_of (Halt i cause) ≡ kinds.Halt)
 
 -- ---- worlds as asked
 

@@ -8,7 +8,8 @@ ghost use Rattle.hda_run.specs.Laws.{OptimalTruthsAgree, BoundTruthsAreBelow};
 ghost use Rattle.hda_run.specs.Laws.{UnsolvableTruthsHaveNoPlan, TrueRowsProve};
 ghost use Rattle.hda_run.specs.Laws.{TrueRowsProveBounds, TrueBoundsHaveProofs};
 ghost use Rattle.hda_run.specs.Laws.{WithoutRowsMemoryWasRefused};
-ghost use Rattle.hda_run.specs.Laws.{OutcomesAreOfTheirSteps};
+ghost use Rattle.hda_run.specs.Laws.{OutcomesAreOfTheirSteps, OutcomesAreOfAllTheirSteps};
+ghost use Rattle.hda_run.specs.Laws.{TruePlansLead, KindsAreNamed};
 ghost use Rattle.hda_run.specs.Laws.{OpeningsAreAsAsked, PartsAreAsOwned};
 
 use owners::Spread;
@@ -29,23 +30,30 @@ pub fn shown_bounds_are_as_named<S: Spread>()
     ensures least { WaitingBeginsThere }
 {}
 
-/// Outcomes of one problem that tell the truth agree, and their rows prove what they say. A bound
-/// lacks rows only where memory was refused.
-#[tactic(auto, using(crate::proofs::LawLemmas::optimal, crate::proofs::LawLemmas::bounded, crate::proofs::LawLemmas::unsolvable, crate::proofs::LawLemmas::rows_prove, crate::proofs::LawLemmas::bounds_prove, crate::proofs::LawLemmas::proofs_exist, crate::proofs::LawLemmas::rows_missing))]
+/// Outcomes of one problem that tell the truth agree. Their plans lead to the goal, and their rows
+/// prove what they say. A bound lacks rows only where memory was refused.
+#[tactic(auto, using(crate::proofs::LawLemmas::optimal, crate::proofs::LawLemmas::bounded, crate::proofs::LawLemmas::unsolvable, crate::proofs::LawLemmas::plans_lead, crate::proofs::LawLemmas::rows_prove, crate::proofs::LawLemmas::bounds_prove, crate::proofs::LawLemmas::proofs_exist, crate::proofs::LawLemmas::rows_missing))]
 pub fn truths_agree()
     ensures optimal { OptimalTruthsAgree }
     ensures bounded { BoundTruthsAreBelow }
     ensures unsolvable { UnsolvableTruthsHaveNoPlan }
+    ensures plans { TruePlansLead }
     ensures rows { TrueRowsProve }
     ensures below { TrueRowsProveBounds }
     ensures unlisted { TrueBoundsHaveProofs }
     ensures refused { WithoutRowsMemoryWasRefused }
 {}
 
-/// The outcome of one step is given by a world to which just that step leads.
-#[tactic(auto, using(crate::proofs::LawLemmas::of_steps))]
+/// The outcome of one step is given by a world to which just that step leads, and so for more.
+#[tactic(auto, using(crate::proofs::LawLemmas::of_steps, crate::proofs::LawLemmas::of_all_steps))]
 pub fn outcomes_are_of_their_steps()
-    ensures { OutcomesAreOfTheirSteps }
+    ensures one { OutcomesAreOfTheirSteps }
+    ensures all { OutcomesAreOfAllTheirSteps }
+{}
+
+/// The kinds of steps are told apart by their names.
+pub fn kinds_are_named()
+    ensures { KindsAreNamed }
 {}
 
 /// The opening world of a job is as asked, and boards are owned by the spread among all workers.
