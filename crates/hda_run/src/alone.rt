@@ -13,6 +13,7 @@ ghost use Rattle.outcomes.specs.declared.outcome.Outcome.TheVariants.{Bounded, U
 ghost use Rattle.outcomes.specs.declared.outcome.Why.TheVariants.{Parity};
 ghost use Rattle.world_model.specs.declared.steps.Refusal.{Refusal};
 ghost use Rattle.world_model.specs.declared.steps.Step.{Step};
+ghost use Rattle.world_model.specs.Openings.{opening};
 ghost use Rattle.world_model.specs.Outcomes.{IsGiven};
 ghost use Rattle.world_model.specs.Steps.{Next};
 ghost use Rattle.world_model.specs.Turns.{turn, refusal_in};
@@ -103,7 +104,8 @@ pub fn search_one<'a, A: Reading, S: Spread, G: Gate>(
 {
     A::keep_laws();
     let _ = job.goal();
-    let world = run_alone(alloc, job, spread, gate)?;
+    let mut world = World::open(alloc, job, 1, spread)?;
+    world = run_alone(alloc, world, gate);
     // This call gives what each world keeps.
     let _ = world.workers();
     Ok(world.read::<A>(alloc))
@@ -116,23 +118,21 @@ pub fn are_apart(job: &Job<'_>) -> bool
     !same_class(job.start(), job.goal())
 }
 
-// The world in which a run by one worker stops.
-fn run_alone<'a, S: Spread, G: Gate>(
-    alloc: Global,
-    job: Job<'a>,
-    spread: &'a S,
-    gate: &G,
-) -> Result<World<'a, S>, OutOfMemory>
-    ensures run { IfOk result (λ world. IsRunAlone (job_of S.owner_of job.entry spread.now 1)
-        (world_of S.owner_of world)) }
-    ensures job { IfOk result (λ world. world.job ≡ job.entry) }
+// The world in which a run by one worker stops, from its opening world on. This answers no error:
+// memory that an expansion lacks is a cause that stops the run.
+fn run_alone<'a, S: Spread, G: Gate>(alloc: Global, world: World<'a, S>, gate: &G) -> World<'a, S>
+    requires { (via : Move) × (world_of S.owner_of world
+        ≡ opening (job_of S.owner_of world.job world.owners.now 1) via) }
+    ensures run { IsRunAlone (job_of S.owner_of world.entry.job world.entry.owners.now 1)
+        (world_of S.owner_of result) }
+    ensures job { result.job ≡ world.entry.job }
 {
-    let _ = job.goal();
-    let mut world = World::open(alloc, job, 1, spread)?;
+    let _ = world.job().goal();
+    let mut world = world;
     gate.meet(world.worker(0).lists().len());
     let end = go_on(alloc, &mut world, gate);
     stop_for(alloc, &mut world, gate, end);
-    Ok(world)
+    world
 }
 
 // Lets the worker go on until it has no more to do. Answers why.

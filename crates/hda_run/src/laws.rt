@@ -44,14 +44,15 @@ pub fn truths_agree()
     ensures refused { WithoutRowsMemoryWasRefused }
 {}
 
-/// The outcome of one step is given by a world to which just that step leads, and so for more.
+/// The outcome of one step is given by a world to which just that step leads, and the outcome of
+/// any steps by one to which just these lead.
 #[tactic(auto, using(crate::proofs::LawLemmas::of_steps, crate::proofs::LawLemmas::of_all_steps))]
 pub fn outcomes_are_of_their_steps()
     ensures one { OutcomesAreOfTheirSteps }
     ensures all { OutcomesAreOfAllTheirSteps }
 {}
 
-/// The kinds of steps are told apart by their names.
+/// Each of the nine steps is of the kind that has its name.
 pub fn kinds_are_named()
     ensures { KindsAreNamed }
 {}
