@@ -104,8 +104,8 @@ pub fn search_one<'a, A: Reading, S: Spread, G: Gate>(
 {
     A::keep_laws();
     let _ = job.goal();
-    let mut world = World::open(alloc, job, 1, spread)?;
-    world = run_alone(alloc, world, gate);
+    let opened = World::open(alloc, job, 1, spread)?;
+    let world = run_alone(alloc, opened, gate);
     // This call gives what each world keeps.
     let _ = world.workers();
     Ok(world.read::<A>(alloc))
