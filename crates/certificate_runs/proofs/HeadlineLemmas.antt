@@ -1,9 +1,10 @@
 -- What was written for a line, or of a certificate, is true.
 use Rattle.std.proofs.Common.{ℕ, ◌≡◌, List, Option, None, Some, Vec, inl, inr, Ok, Err, refl, sym, subst, arith, ap, true, ◌<◌, ◌+◌, [], ◌∷◌, ◌++◌, length, ◌∙◌, length-append, ◌≢◌, suc, ◌^◌, Bool, false, cond, Result, append-nil, get_or, not, slice_get, option_and_then}
 use Rattle.std.specs.declared.alloc.Global.{Global}
+use Rattle.std.specs.Io.KnownBytes.{Appends, Keeps}
 use Rattle.std.proofs.KnownBytes.{Appends-nil, Keeps-refl}
 use Rattle.std.proofs.lemmas.List.Elements.{recursion_from_All}
-use Rattle.std.specs.Prelude.{◌↔◌, IsSome, ◌≤◌, IfSome, codes, nat_lt, unwrap_or}
+use Rattle.std.specs.Prelude.{◌↔◌, ◌⊎◌, IsSome, ◌≤◌, IfSome, codes, nat_lt, unwrap_or}
 use Rattle.std.specs.List.{AllByRecursion}
 use Rattle.std.proofs.lemmas.Bool.{ne_eqb}
 use Rattle.serde_json.specs.Data.{Data, null, boolean, number, unsigned, string, array, object}
@@ -36,14 +37,19 @@ use Rattle.reports.specs.Readings.{HasSmallNumbers, HasStatus, IsReport, IsSmall
 use Rattle.reports.specs.Readings.IsReport.{of_outcome, of_line, of_cost, of_bound, of_certificate}
 use Rattle.reports.proofs.ReadLemmas.{report_read}
 use Rattle.reports.proofs.TextLemmas.{text_other}
-use Rattle.certificate.specs.Certificates.{CertificateModel, greatest}
+use Rattle.certificate.specs.Certificates.{CertificateModel, greatest, upgraded}
+use Rattle.certificate.specs.Readings.{Reading, certificate, IsFirstFormatFault}
+use Rattle.certificate.specs.declared.faults.FormatFault.{FormatFault}
 use Rattle.certificate.specs.Spellings.{Spells, spelling}
 use Rattle.certificate.specs.Faults.{format_code}
 use Rattle.certificate.specs.Sources.{TellsOfInput}
 use Rattle.certificate.specs.declared.faults.ReadFault.{ReadFault}
 use Rattle.certificate.specs.declared.faults.ReadFault.TheVariants.{Format, Failed, NoMemory}
-use Rattle.certificate.proofs.LawLemmas.{spelled_read}
-use Rattle.certificate_check.specs.Refusals.{ItsPlanLeads, refusal_code}
+use Rattle.certificate.proofs.LawLemmas.{spelled_read, one_first_fault}
+use Rattle.certificate_check.specs.Refusals.{ItsPlanLeads, IsFirstRefusal, refusal_code}
+use Rattle.drawings.specs.declared.drawing.Style.{Style}
+use Rattle.drawings.specs.Drawings.{IsDrawing}
+use Rattle.certificate_runs.specs.Built.{AreBuiltFor}
 use Rattle.batch_runs.specs.Batches.{AnswersEntry, AnswersKind, AnswersLine, Rules, IsTruthful, Answer, AnswersLines, AreAll, AreFirst, answer_text, answers_text}
 use Rattle.batch_runs.proofs.BatchLemmas.{AreFirst-read}
 use Rattle.batch_runs.specs.Batches.AnswersEntry.{by_outcome, by_fault, by_want}
@@ -61,9 +67,10 @@ use Rattle.certificate_runs.specs.declared.faults.UpgradeFault.{UpgradeFault}
 use Rattle.certificate_runs.specs.declared.faults.UpgradeFault.TheVariants.{CertificateRead, CertificateMemory}
 use Rattle.certificate_runs.specs.Upgrading.{EndsUpgrade, Upgrades}
 use Rattle.certificate_runs.specs.Checking.{claim_data, IsJudgement, IsVerdictOutput, Checks}
-use Rattle.certificate_runs.specs.Headline.{BoundsLackRows, CertifiesTruly, ClaimsTruly, AnswersFirst, WritesAnswer, IsTrueAnswer, IsCertificateRefusedBy, SaysOf, IsTrueVerdict, WritesVerdict, IsTrueCheck, WritesUpgrade, IsTrueUpgrade}
+use Rattle.certificate_runs.specs.Headline.{BoundsLackRows, CertifiesTruly, ClaimsTruly, AnswersFirst, WritesAnswer, IsTrueAnswer, IsCertificateRefusedBy, SaysOf, IsTrueVerdict, WritesVerdict, IsTrueCheck, WritesUpgrade, IsTrueUpgrade, WritesShow, IsMistaken}
 use Rattle.certificate_runs.specs.Headline.AnswersFirst.{by_none, by_certificate, by_report}
-use Rattle.certificate_runs.specs.Laws.{CertificatesAreOfOutcomes, WantsAreOfRules, GroupsAreWantedForRows, SaidBoundsLackRows, OutcomesWithRowsAreCertified, ReportedBoundsLackRows, BoundsAreCertified, ClaimsAreOfEndings, LeastPlansAreCertified, StatusesTellClaims, OtherFaultsLeaveTheSink, OtherFaultsWriteNoVerdict, VerdictsAreOnWhatWasRead, WantsAreForVerdicts, AcceptedCostsAreLeast, AcceptedBoundsAreBelow, RefusedInputsHaveTheFault}
+use Rattle.certificate_runs.proofs.CertifyLemmas.{silence}
+use Rattle.certificate_runs.specs.Laws.{CertifiedPlansAreLeast, CertifiedBoundsAreBelow, CertificatesAreOfTasks, CertificatesAreProved, FaultyInputsHaveTheirCode, RefusedCertificatesHaveACause, VerdictsAreWritten, UpgradesAreWritten, DrawingsAreWritten, FirstLinesAreAnswered, SilentRunsAreUnasked, CertificatesAreOfOutcomes, WantsAreOfRules, GroupsAreWantedForRows, SaidBoundsLackRows, OutcomesWithRowsAreCertified, ReportedBoundsLackRows, BoundsAreCertified, ClaimsAreOfEndings, LeastPlansAreCertified, StatusesTellClaims, OtherFaultsLeaveTheSink, OtherFaultsWriteNoVerdict, VerdictsAreOnWhatWasRead, WantsAreForVerdicts, AcceptedCostsAreLeast, AcceptedBoundsAreBelow, RefusedInputsHaveTheFault}
 use Rattle.outcomes.specs.declared.outcome.Outcome.TheVariants as outcome
 use Rattle.certificate_runs.specs.declared.faults.CertifyFault.TheVariants as certify
 use Rattle.certificate_runs.specs.declared.faults.CheckFault.TheVariants as check
@@ -274,6 +281,7 @@ module _ (split : PartitionModel) (rules : ProofRules) (truthful : ProvesTruly r
     first = first_all source.before.left lines all;
     put = untouched sink same;
     answer = by_none (none_ask 1 lines (recursion_from_All IsPassedOver lines over)) refl;
+    silent = λ none. all;
   }
 
   first_answered : (output : Output) (first : HasFirst source) → CertifiesLine split rules (first_line source first) (without_return first.line) output → AnswersFirst split rules (first.passed ++ first.line ∷ []) output.text
@@ -287,6 +295,13 @@ module _ (split : PartitionModel) (rules : ProofRules) (truthful : ProvesTruly r
       (subst (TellsTheTruth (report_rules rules) (first.passed ++ first.line ∷ [])) (sym (ap (λ (o : Output). o.text) written)) (last_true (report_rules rules) (reports_truthful rules truthful) first.passed first.line answer first.finds.few over is))
       (subst (BoundsLackRows rules first.line) (sym (ap (λ (o : Output). o.text) written)) (line_lacks rules first.line (length first.passed + 1) first.finds.few answer first.finds.here is needs))
 
+  -- what answers a line that asks is not nothing
+  spoken : (lines : List (List ℕ)) (n : ℕ) (line output : List ℕ) → questions 1 lines ≡ (n, line) ∷ [] → AnswersFirst split rules lines output → output ≡ [] → ⊥
+  spoken lines n line output asked answers none =
+      let one = ap (λ (asking : List (ℕ × List ℕ)). length asking) asked in
+      let unasked = ap (λ (asking : List (ℕ × List ℕ)). length asking) (silence rules split lines (subst (AnswersFirst split rules lines) none answers)) in
+      absurd (omega (arith, one, unasked))
+
   pub answer_true : (result : Result ℕ CertifyFault) → Replies split rules source sink result → IsTrueAnswer split rules source sink result
   answer_true (Ok status) (some, (readable, inl (all, same, told))) = none_answered all same
   answer_true (Ok status) (some, (readable, inr (output, (first, replies), put, told))) = record {
@@ -295,8 +310,29 @@ module _ (split : PartitionModel) (rules : ProofRules) (truthful : ProvesTruly r
     first = AreFirst-read source.before.left source.after.left (first.passed ++ first.line ∷ []) first.finds.read;
     put = put.0;
     answer = first_answered output first replies;
+    silent = λ none. absurd (spoken (first.passed ++ first.line ∷ []) (1 + length first.passed) first.line output.text (one_asks 1 first.passed first.line (recursion_from_All IsPassedOver first.passed first.finds.before) first.finds.here) (first_answered output first replies) none);
   }
   answer_true (Err fault) replies = tt
+
+-- what was put into an empty sink is what it holds
+held : (before after : Option (List ℕ)) (bytes : List ℕ) → before ≡ Some [] → Appends before after bytes → after ≡ Some bytes
+held before after bytes empty put = of_after after (subst (λ (contents : Option (List ℕ)). Appends contents after bytes) empty put)
+  where
+    of_after : (after : Option (List ℕ)) → Appends (Some []) after bytes → after ≡ Some bytes
+    of_after None none = absurd none
+    of_after (Some now) is = ap (λ (l : List ℕ). Some l) is
+
+pub first_lines : (rules : ProofRules) → FirstLinesAreAnswered rules
+first_lines rules split source sink status input known empty answer =
+    let first : (more : List (List ℕ)) × (lines_of input ≡ answer.lines ++ more) = subst (λ (left : Option (List ℕ)). AreFirst left answer.lines) known answer.first in
+    (answer.lines, first.0, answer.output, first.1, held sink.before.contents sink.after.contents answer.output empty answer.put, answer.answer)
+
+pub silent_runs : (rules : ProofRules) → SilentRunsAreUnasked rules
+silent_runs rules split source sink status input known empty left answer =
+    let holds = held sink.before.contents sink.after.contents answer.output empty answer.put in
+    let none : answer.output ≡ [] = ap line_or (sym holds ∙ left) in
+    let all : lines_of input ≡ answer.lines = subst (λ (read : Option (List ℕ)). AreAll read answer.lines) known (answer.silent none) in
+    subst (λ (lines : List (List ℕ)). questions 1 lines ≡ []) (sym all) (silence rules split answer.lines (subst (AnswersFirst split rules answer.lines) none answer.answer))
 
 -- ---- a certificate in, a verdict out
 
@@ -532,3 +568,72 @@ refused_by input code verdict =
     let said = verdict.refused refl in
     let same : code ≡ said.0 = ap said_text said.1 in
     subst (IsCertificateRefusedBy input) (sym same) said.2
+
+-- ---- what a certificate says of its task
+
+pub certified_least : CertifiedPlansAreLeast
+certified_least split task c bytes plan certifies is = subst (ClaimsTruly task c.cost) is certifies.claim
+
+pub certified_below : CertifiedBoundsAreBelow
+certified_below split task c bytes certifies is = subst (ClaimsTruly task c.cost) is certifies.claim
+
+pub certified_task : CertificatesAreOfTasks
+certified_task split task c bytes certifies = (certifies.read, certifies.version, certifies.groups, certifies.start, certifies.goal, certifies.costs)
+
+pub certified_proved : CertificatesAreProved
+certified_proved split task c bytes tables certifies built = certifies.proved tables built
+
+-- ---- what is wrong with an input
+
+abbrev found : CertificateModel → Reading CertificateModel
+found c = Ok (c, [])
+
+-- bytes that are a certificate have no fault
+no_fault : (input : List ℕ) (c : CertificateModel) (fault : FormatFault) → certificate input ≡ found c → IsFirstFormatFault input fault → ⊥
+no_fault input c fault read first = let both = sym read ∙ first.1 in absurd (cc)
+
+-- and are no other certificate
+one_certificate : (input : List ℕ) (c d : CertificateModel) → certificate input ≡ found c → certificate input ≡ found d → d ≡ c
+one_certificate input c d read other = ap (read_or c) (sym other ∙ read)
+  where
+    read_or : CertificateModel → Reading CertificateModel → CertificateModel
+    read_or none (Ok p) = p.0
+    read_or none (Err f) = none
+
+pub faulty_code : FaultyInputsHaveTheirCode
+faulty_code input code fault first (inl (other, found, is)) = is ∙ ap format_code (one_first_fault input fault other first found)
+faulty_code input code fault first (inr (c, tables, refusal, read, built, cause, is)) = absurd (no_fault input c fault read first)
+
+pub refused_cause : RefusedCertificatesHaveACause
+refused_cause input code c read (inl (fault, first, is)) = absurd (no_fault input c fault read first)
+refused_cause input code c read (inr (d, tables, refusal, other, built, cause, is)) =
+    let same : d ≡ c = one_certificate input c d read other in
+    record { tables = tables; refusal = refusal; built = subst (λ (e : CertificateModel). AreBuiltFor e tables) same built; first = subst (λ (e : CertificateModel). IsFirstRefusal e tables refusal) same cause; told = is }
+
+-- ---- what a sink holds in the end
+
+kept_empty : (before after : Option (List ℕ)) → before ≡ Some [] → Keeps before after → after ≡ Some []
+kept_empty before after empty keeps = of_after after (subst (λ (contents : Option (List ℕ)). Keeps contents after) empty keeps)
+  where
+    of_after : (after : Option (List ℕ)) → Keeps (Some []) after → after ≡ Some []
+    of_after None none = absurd none
+    of_after (Some now) is = ap (λ (l : List ℕ). Some l) is
+
+pub verdicts_written : VerdictsAreWritten
+verdicts_written source sink status input known empty checked =
+    let verdict : WritesVerdict sink input = subst (λ (left : Option (List ℕ)). IfSome left (WritesVerdict sink)) known checked in
+    (verdict.line, verdict.value, held sink.before.contents sink.after.contents (verdict.line ++ 10 ∷ []) empty verdict.put, verdict.json, verdict.truth)
+
+pub upgrades_written : UpgradesAreWritten
+upgrades_written source sink status input known empty ended = by_end (subst (λ (left : Option (List ℕ)). IfSome left (WritesUpgrade sink status)) known ended)
+  where
+    by_end : WritesUpgrade sink status input → ((c : CertificateModel) × (certificate input ≡ Ok (c, [])) × (sink.after.contents ≡ Some (spelling (upgraded c))) × (status ≡ 0)) ⊎ ((fault : FormatFault) × IsFirstFormatFault input fault × (sink.after.contents ≡ Some []) × (status ≡ 5))
+    by_end (inl (c, read, put, is)) = inl (c, read, held sink.before.contents sink.after.contents (spelling (upgraded c)) empty put, is)
+    by_end (inr (fault, first, none, is)) = inr (fault, first, kept_empty sink.before.contents sink.after.contents empty none, is)
+
+pub drawings_written : DrawingsAreWritten
+drawings_written style source sink status input known empty drawn = by_end (subst (λ (left : Option (List ℕ)). IfSome left (WritesShow style sink status)) known drawn)
+  where
+    by_end : WritesShow style sink status input → ((c : CertificateModel) × (drawing : List ℕ) × (certificate input ≡ Ok (c, [])) × ItsPlanLeads c × IsDrawing style c drawing × (sink.after.contents ≡ Some drawing) × (status ≡ 0)) ⊎ ((code : List ℕ) × IsMistaken input code × (sink.after.contents ≡ Some (report_text (refused_certificate_data code))) × (status ≡ 5))
+    by_end (inl (c, drawing, read, leads, draws, put, is)) = inl (c, drawing, read, leads, draws, held sink.before.contents sink.after.contents drawing empty put, is)
+    by_end (inr (code, mistaken, put, is)) = inr (code, mistaken, held sink.before.contents sink.after.contents (report_text (refused_certificate_data code)) empty put, is)

@@ -24,7 +24,7 @@ use Rattle.certificate_check.specs.Refusals.{IsProved, ItsPlanLeads, IsFirstRefu
 use Rattle.drawings.specs.declared.drawing.Style.{Style}
 use Rattle.drawings.specs.Drawings.{IsDrawing}
 use Rattle.certificate_check.specs.declared.refusals.Refusal.{Refusal}
-use Rattle.batch_runs.specs.Batches.{AreFirst}
+use Rattle.batch_runs.specs.Batches.{AreAll, AreFirst}
 use Rattle.batch_runs.specs.Meanings.{questions, Names, IsReply}
 use Rattle.batch_runs.specs.Headline.{TellsTheTruth}
 use Rattle.lower_bound.specs.Tables.{BoundModel}
@@ -66,13 +66,14 @@ pub data AnswersFirst (split : PartitionModel) (rules : ProofRules) (lines : Lis
   by_certificate : (n : ℕ) (line id : List ℕ) (b : BoardModel) (c : CertificateModel) → questions 1 lines ≡ (n, line) ∷ [] → Names rules.grid line id b → CertifiesTruly split (rules.task b) c output → AnswersFirst split rules lines output
   by_report : (n : ℕ) (line : List ℕ) → questions 1 lines ≡ (n, line) ∷ [] → TellsTheTruth (report_rules rules) lines output → BoundsLackRows rules line output → AnswersFirst split rules lines output
 
--- this was written for the first lines of the input
+-- this was written for the first lines of the input; where it is nothing, these are all of its lines
 pub record WritesAnswer (split : PartitionModel) (rules : ProofRules) (source : Change SourceState) (sink : Change SinkState) : Type 0 where
   pub lines : List (List ℕ)
   pub output : List ℕ
   pub first : AreFirst source.before.left lines
   pub put : Puts sink output
   pub answer : AnswersFirst split rules lines output
+  pub silent : output ≡ [] → AreAll source.before.left lines
 
 -- a run that ends well wrote such an answer
 abbrev pub IsTrueAnswer : PartitionModel → ProofRules → Change SourceState → Change SinkState → Result ℕ CertifyFault → Type 0

@@ -1,5 +1,5 @@
 -- The laws of the definitions. Each is the contract of a function that does nothing.
-use Rattle.std.specs.Prelude.{ℕ, ◌≡◌, ◌≢◌, ◌⊎◌, ◌↔◌, List, [], Option, None, Some, IsSome, Result, Ok, Err, Vec, codes}
+use Rattle.std.specs.Prelude.{ℕ, ◌≡◌, ◌≢◌, ◌⊎◌, ◌↔◌, List, [], ◌∷◌, ◌++◌, Option, None, Some, IsSome, Result, Ok, Err, Vec, codes}
 use Rattle.std.specs.declared.alloc.Global.{Global}
 use Rattle.reports.specs.declared.report.NoReport.{NoReport}
 use Rattle.board.specs.declared.moves.Move.{Move}
@@ -12,27 +12,37 @@ use Rattle.outcomes.specs.declared.outcome.Why.{Why}
 use Rattle.outcomes.specs.declared.outcome.Cause.TheVariants.{Memory}
 use Rattle.outcomes.specs.declared.outcome.Want.TheVariants.{Refused}
 use Rattle.outcomes.specs.Endings.{without_rows}
-use Rattle.outcomes.specs.Outcomes.{StandsAlone}
+use Rattle.outcomes.specs.Outcomes.{Task, StandsAlone}
 use Rattle.memory.specs.declared.OutOfMemory.{OutOfMemory}
 use Rattle.serde_json.specs.Data.{Data}
-use Rattle.reports.specs.Readings.{SaysNumber, HasStatus}
-use Rattle.reports.specs.Reports.{accepted_data, accepted_bound_data, refused_certificate_data}
+use Rattle.reports.specs.Readings.{Reads, SaysNumber, HasStatus}
+use Rattle.reports.specs.Reports.{accepted_data, accepted_bound_data, refused_certificate_data, report_text}
 use Rattle.batch_lines.specs.Words.{IsEntry}
+use Rattle.batch_lines.specs.Lines.{lines_of}
 use Rattle.batch_lines.specs.declared.lines.Line.{Line}
 use Rattle.byte_streams.specs.Streams.{SourceState, SinkState, Change}
 use Rattle.batch_runs.specs.Batches.{AnswersLine}
 use Rattle.batch_runs.specs.Batches.Answer.{answered}
 use Rattle.batch_runs.specs.Meanings.{questions, Names, IsReply}
 use Rattle.pattern_index.specs.Partitions.{PartitionModel}
-use Rattle.certificate_runs.specs.Headline.{AnswersFirst, BoundsLackRows, IsTrueVerdict, IsCertificateRefusedBy}
+use Rattle.certificate_runs.specs.Headline.{AnswersFirst, CertifiesTruly, IsTrueAnswer, BoundsLackRows, IsTrueVerdict, IsCertificateRefusedBy, IsTrueCheck, IsTrueUpgrade, IsMistaken, IsTrueShow}
 use Rattle.board.specs.Boards.{BoardModel}
 use Rattle.board.specs.Plans.{Leads, NothingBelow, IsLeast}
-use Rattle.certificate.specs.Certificates.{CertificateModel}
-use Rattle.certificate.specs.Readings.{certificate}
+use Rattle.certificate.specs.Certificates.{CertificateModel, upgraded}
+use Rattle.certificate.specs.Spellings.{spelling}
+use Rattle.certificate.specs.Faults.{format_code}
+use Rattle.certificate.specs.declared.certificate.Version.TheVariants.{Two}
+use Rattle.certificate_check.specs.Refusals.{IsProved, ItsPlanLeads, IsFirstRefusal, refusal_code}
+use Rattle.certificate_check.specs.declared.refusals.Refusal.{Refusal}
+use Rattle.drawings.specs.declared.drawing.Style.{Style}
+use Rattle.drawings.specs.Drawings.{IsDrawing}
+use Rattle.lower_bound.specs.Tables.{BoundModel}
+use Rattle.certificate.specs.Readings.{certificate, IsFirstFormatFault}
 use Rattle.certificate.specs.declared.faults.FormatFault.{FormatFault}
 use Rattle.certificate.specs.declared.faults.ReadFault.{ReadFault}
 use Rattle.certificate.specs.declared.faults.ReadFault.TheVariants.{Format}
 use Rattle.certificate_runs.specs.Rules.{ProofRules, rows_of, report_rules}
+use Rattle.certificate_runs.specs.Built.{AreBuiltFor}
 use Rattle.certificate_runs.specs.Outputs.{Output}
 use Rattle.certificate_runs.specs.Certifying.{Replies, Claims, NeedsReport, HasNoReply, IsCertificateFor, certificate_output}
 use Rattle.certificate_runs.specs.Checking.{Checks, EndsCheck, IsVerdictOutput}
@@ -53,6 +63,25 @@ OtherFaultsWriteNoVerdict = (source : Change SourceState) (sink : Change SinkSta
 -- where nothing is written for lines, none of them asks for an answer
 abbrev pub SilenceIsUnasked : ProofRules → Type 0
 SilenceIsUnasked rules = (split : PartitionModel) (lines : List (List ℕ)) → AnswersFirst split rules lines [] → questions 1 lines ≡ []
+
+-- where the input is known and the sink was empty, a run that ends well leaves an answer to the input's first lines
+abbrev pub FirstLinesAreAnswered : ProofRules → Type 0
+FirstLinesAreAnswered rules =
+    (split : PartitionModel) (source : Change SourceState) (sink : Change SinkState) (status : ℕ) (input : List ℕ)
+    → source.before.left ≡ Some input
+    → sink.before.contents ≡ Some []
+    → IsTrueAnswer split rules source sink (Ok status)
+    → (lines more : List (List ℕ)) × (output : List ℕ) × (lines_of input ≡ lines ++ more) × (sink.after.contents ≡ Some output) × AnswersFirst split rules lines output
+
+-- and where it leaves nothing, no line of the input asks for an answer
+abbrev pub SilentRunsAreUnasked : ProofRules → Type 0
+SilentRunsAreUnasked rules =
+    (split : PartitionModel) (source : Change SourceState) (sink : Change SinkState) (status : ℕ) (input : List ℕ)
+    → source.before.left ≡ Some input
+    → sink.before.contents ≡ Some []
+    → sink.after.contents ≡ Some []
+    → IsTrueAnswer split rules source sink (Ok status)
+    → questions 1 (lines_of input) ≡ []
 
 -- no answer that names a least plan is reported: its certificate is written
 abbrev pub LeastPlansAreCertified : Type 0
@@ -108,6 +137,34 @@ CertificatesAreOfOutcomes rules =
     → IsCertificateFor split rules bytes c
     → (id : List ℕ) × (b : BoardModel) × (given : Outcome) × IsEntry rules.grid bytes id b × rules.allows b (Some given) × Claims c (without_rows given) × (rows_of given ≡ Some c.rows)
 
+-- where a certificate that answers a task claims a plan, the plan leads from the task's start to its goal at the stated cost, and no plan costs less
+abbrev pub CertifiedPlansAreLeast : Type 0
+CertifiedPlansAreLeast =
+    (split : PartitionModel) (task : Task) (c : CertificateModel) (bytes : List ℕ) (plan : List Move)
+    → CertifiesTruly split task c bytes
+    → c.plan ≡ Some plan
+    → Leads task.rule task.start plan task.goal c.cost × IsLeast task.rule task.start task.goal c.cost
+
+-- where it claims none, no plan of the task costs less than it states
+abbrev pub CertifiedBoundsAreBelow : Type 0
+CertifiedBoundsAreBelow =
+    (split : PartitionModel) (task : Task) (c : CertificateModel) (bytes : List ℕ)
+    → CertifiesTruly split task c bytes
+    → c.plan ≡ None
+    → NothingBelow task.rule task.start task.goal c.cost
+
+-- the bytes are this certificate and nothing else; it is of version 2, has these groups, and is of the task's start, goal and costs
+abbrev pub CertificatesAreOfTasks : Type 0
+CertificatesAreOfTasks =
+    (split : PartitionModel) (task : Task) (c : CertificateModel) (bytes : List ℕ)
+    → CertifiesTruly split task c bytes
+    → (certificate bytes ≡ Ok (c, [])) × (c.version ≡ Two) × (c.groups ≡ split) × (c.start ≡ task.start) × (c.goal ≡ task.goal) × (c.costs ≡ task.rule)
+
+-- and its rows prove it with any tables that are built for its groups
+abbrev pub CertificatesAreProved : Type 0
+CertificatesAreProved =
+    (split : PartitionModel) (task : Task) (c : CertificateModel) (bytes : List ℕ) (tables : BoundModel) → CertifiesTruly split task c bytes → AreBuiltFor c tables → IsProved c tables
+
 -- V3 may be reported of a board only where the rules allow that memory is refused for it
 abbrev pub WantsAreOfRules : ProofRules → Type 0
 WantsAreOfRules rules = (b : BoardModel) → (report_rules rules).allows b None → rules.allows b None
@@ -145,3 +202,49 @@ AcceptedBoundsAreBelow =
 -- and where it is true that an input is refused with this code, its first fault, or the first cause against its certificate, has this code
 abbrev pub RefusedInputsHaveTheFault : Type 0
 RefusedInputsHaveTheFault = (input code : List ℕ) → IsTrueVerdict input (refused_certificate_data code) → IsCertificateRefusedBy input code
+
+-- an input with a first fault is refused only with this fault's code
+abbrev pub FaultyInputsHaveTheirCode : Type 0
+FaultyInputsHaveTheirCode = (input code : List ℕ) (fault : FormatFault) → IsFirstFormatFault input fault → IsCertificateRefusedBy input code → code ≡ format_code fault
+
+-- the first cause against a certificate, with the tables of its groups, has this code
+pub record HasCauseOf (code : List ℕ) (c : CertificateModel) : Type 0 where
+  pub tables : BoundModel
+  pub refusal : Refusal
+  pub built : AreBuiltFor c tables
+  pub first : IsFirstRefusal c tables refusal
+  pub told : code ≡ refusal_code refusal
+
+-- and one that is a certificate is refused only with the code of the first cause against it
+abbrev pub RefusedCertificatesHaveACause : Type 0
+RefusedCertificatesHaveACause = (input code : List ℕ) (c : CertificateModel) → certificate input ≡ Ok (c, []) → IsCertificateRefusedBy input code → HasCauseOf code c
+
+-- where the input is known and the sink was empty, a check that ends well leaves there one line with its line feed, which is read as JSON and
+-- says the truth of the input
+abbrev pub VerdictsAreWritten : Type 0
+VerdictsAreWritten =
+    (source : Change SourceState) (sink : Change SinkState) (status : ℕ) (input : List ℕ)
+    → source.before.left ≡ Some input
+    → sink.before.contents ≡ Some []
+    → IsTrueCheck source sink (Ok status)
+    → (line : List ℕ) × (d : Data) × (sink.after.contents ≡ Some (line ++ 10 ∷ [])) × Reads line d × IsTrueVerdict input d
+
+-- an upgrade that ends well leaves there the spelling of the certificate in version 2, with the status 0, or nothing, with the status 5
+abbrev pub UpgradesAreWritten : Type 0
+UpgradesAreWritten =
+    (source : Change SourceState) (sink : Change SinkState) (status : ℕ) (input : List ℕ)
+    → source.before.left ≡ Some input
+    → sink.before.contents ≡ Some []
+    → IsTrueUpgrade source sink (Ok status)
+    → ((c : CertificateModel) × (certificate input ≡ Ok (c, [])) × (sink.after.contents ≡ Some (spelling (upgraded c))) × (status ≡ 0))
+    ⊎ ((fault : FormatFault) × IsFirstFormatFault input fault × (sink.after.contents ≡ Some []) × (status ≡ 5))
+
+-- and a run that draws leaves there the drawing of the certificate, with the status 0, or the report of what is wrong, with the status 5
+abbrev pub DrawingsAreWritten : Type 0
+DrawingsAreWritten =
+    (style : Style) (source : Change SourceState) (sink : Change SinkState) (status : ℕ) (input : List ℕ)
+    → source.before.left ≡ Some input
+    → sink.before.contents ≡ Some []
+    → IsTrueShow style source sink (Ok status)
+    → ((c : CertificateModel) × (drawing : List ℕ) × (certificate input ≡ Ok (c, [])) × ItsPlanLeads c × IsDrawing style c drawing × (sink.after.contents ≡ Some drawing) × (status ≡ 0))
+    ⊎ ((code : List ℕ) × IsMistaken input code × (sink.after.contents ≡ Some (report_text (refused_certificate_data code))) × (status ≡ 5))

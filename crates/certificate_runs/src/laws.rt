@@ -2,6 +2,7 @@
 
 ghost use Rattle.certificate_runs.specs.Laws.{OtherFaultsLeaveTheSink, OtherFaultsWriteNoVerdict};
 ghost use Rattle.certificate_runs.specs.Laws.{SilenceIsUnasked, LeastPlansAreCertified};
+ghost use Rattle.certificate_runs.specs.Laws.{FirstLinesAreAnswered, SilentRunsAreUnasked};
 ghost use Rattle.certificate_runs.specs.Laws.{BoundsAreCertified, ClaimsAreOfEndings};
 ghost use Rattle.certificate_runs.specs.Laws.{StatusesTellClaims};
 ghost use Rattle.certificate_runs.specs.Laws.{ReportedBoundsLackRows, OutcomesWithRowsAreCertified};
@@ -10,6 +11,12 @@ ghost use Rattle.certificate_runs.specs.Laws.{GroupsAreWantedForRows, SaidBounds
 ghost use Rattle.certificate_runs.specs.Laws.{VerdictsAreOnWhatWasRead, WantsAreForVerdicts};
 ghost use Rattle.certificate_runs.specs.Laws.{AcceptedCostsAreLeast, AcceptedBoundsAreBelow};
 ghost use Rattle.certificate_runs.specs.Laws.{RefusedInputsHaveTheFault};
+ghost use Rattle.certificate_runs.specs.Laws.{CertifiedPlansAreLeast, CertifiedBoundsAreBelow};
+ghost use Rattle.certificate_runs.specs.Laws.{CertificatesAreOfTasks, CertificatesAreProved};
+ghost use Rattle.certificate_runs.specs.Laws.{FaultyInputsHaveTheirCode};
+ghost use Rattle.certificate_runs.specs.Laws.{RefusedCertificatesHaveACause};
+ghost use Rattle.certificate_runs.specs.Laws.{VerdictsAreWritten, UpgradesAreWritten};
+ghost use Rattle.certificate_runs.specs.Laws.{DrawingsAreWritten};
 
 use crate::certifying::ProofRuled;
 
@@ -27,9 +34,13 @@ pub fn other_faults_write_no_verdict()
     ensures { OtherFaultsWriteNoVerdict }
 {}
 
-/// Where nothing is written for lines, none of them asks for an answer.
+/// Where nothing is written for lines, none of them asks for an answer. Where the input is known and
+/// the sink was empty, a run that ends well leaves there an answer to the input's first lines, and
+/// nothing only where no line of the input asks for one.
 pub fn silence_is_unasked<A: ProofRuled>(asked: &A)
-    ensures { SilenceIsUnasked (A.rules asked.now) }
+    ensures lines { SilenceIsUnasked (A.rules asked.now) }
+    ensures first { FirstLinesAreAnswered (A.rules asked.now) }
+    ensures runs { SilentRunsAreUnasked (A.rules asked.now) }
 {
     let _ = asked;
 }
@@ -52,6 +63,17 @@ pub fn outcomes_with_rows_are_certified<A: ProofRuled>(asked: &A)
 {
     let _ = asked;
 }
+
+/// A certificate that answers a task is of the task's start, goal and costs, and its rows prove it.
+/// A plan that it claims is a least one of the task, and no plan of the task costs less than a bound
+/// that it claims.
+#[tactic(auto, using(crate::proofs::HeadlineLemmas::certified_least, crate::proofs::HeadlineLemmas::certified_below, crate::proofs::HeadlineLemmas::certified_task, crate::proofs::HeadlineLemmas::certified_proved))]
+pub fn certificates_tell_of_tasks()
+    ensures plans { CertifiedPlansAreLeast }
+    ensures bounds { CertifiedBoundsAreBelow }
+    ensures tasks { CertificatesAreOfTasks }
+    ensures rows { CertificatesAreProved }
+{}
 
 /// A certificate claims what an outcome says that its board may be answered by, and has its rows.
 /// V3 is reported, memory is refused for groups, and a bound is said only where the rules allow it.
@@ -79,4 +101,21 @@ pub fn verdicts_tell_of_plans()
     ensures costs { AcceptedCostsAreLeast }
     ensures bounds { AcceptedBoundsAreBelow }
     ensures refused { RefusedInputsHaveTheFault }
+{}
+
+/// An input is refused with the code of its first fault, or of the first cause against the
+/// certificate that it is.
+#[tactic(auto, using(crate::proofs::HeadlineLemmas::faulty_code, crate::proofs::HeadlineLemmas::refused_cause))]
+pub fn refusals_have_their_code()
+    ensures faults { FaultyInputsHaveTheirCode }
+    ensures causes { RefusedCertificatesHaveACause }
+{}
+
+/// Where the input is known and the sink was empty, a run that ends well leaves there a true verdict
+/// on the input, its spelling in version 2, or its drawing, and nothing else.
+#[tactic(auto, using(crate::proofs::HeadlineLemmas::verdicts_written, crate::proofs::HeadlineLemmas::upgrades_written, crate::proofs::HeadlineLemmas::drawings_written))]
+pub fn runs_leave_what_they_tell()
+    ensures verdicts { VerdictsAreWritten }
+    ensures upgrades { UpgradesAreWritten }
+    ensures drawings { DrawingsAreWritten }
 {}
