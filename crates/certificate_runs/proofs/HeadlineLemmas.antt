@@ -70,7 +70,7 @@ use Rattle.certificate_runs.specs.Checking.{claim_data, IsJudgement, IsVerdictOu
 use Rattle.certificate_runs.specs.Headline.{BoundsLackRows, CertifiesTruly, ClaimsTruly, AnswersFirst, WritesAnswer, IsTrueAnswer, IsCertificateRefusedBy, SaysOf, IsTrueVerdict, WritesVerdict, IsTrueCheck, WritesUpgrade, IsTrueUpgrade, WritesShow, IsMistaken}
 use Rattle.certificate_runs.specs.Headline.AnswersFirst.{by_none, by_certificate, by_report}
 use Rattle.certificate_runs.proofs.CertifyLemmas.{silence}
-use Rattle.certificate_runs.specs.Laws.{CertifiedPlansAreLeast, CertifiedBoundsAreBelow, CertificatesAreOfTasks, CertificatesAreProved, FaultyInputsHaveTheirCode, RefusedCertificatesHaveACause, VerdictsAreWritten, UpgradesAreWritten, DrawingsAreWritten, FirstLinesAreAnswered, SilentRunsAreUnasked, CertificatesAreOfOutcomes, WantsAreOfRules, GroupsAreWantedForRows, SaidBoundsLackRows, OutcomesWithRowsAreCertified, ReportedBoundsLackRows, BoundsAreCertified, ClaimsAreOfEndings, LeastPlansAreCertified, StatusesTellClaims, OtherFaultsLeaveTheSink, OtherFaultsWriteNoVerdict, VerdictsAreOnWhatWasRead, WantsAreForVerdicts, AcceptedCostsAreLeast, AcceptedBoundsAreBelow, RefusedInputsHaveTheFault}
+use Rattle.certificate_runs.specs.Laws.{UnaskedLinesAreSilent, CertificatesAnswerTheQuestion, ReportsAnswerTheQuestion, CertifiedPlansAreLeast, CertifiedBoundsAreBelow, CertificatesAreOfTasks, CertificatesAreProved, FaultyInputsHaveTheirCode, RefusedCertificatesHaveACause, VerdictsAreWritten, UpgradesAreWritten, DrawingsAreWritten, FirstLinesAreAnswered, SilentRunsAreUnasked, CertificatesAreOfOutcomes, WantsAreOfRules, GroupsAreWantedForRows, SaidBoundsLackRows, OutcomesWithRowsAreCertified, ReportedBoundsLackRows, BoundsAreCertified, ClaimsAreOfEndings, LeastPlansAreCertified, StatusesTellClaims, OtherFaultsLeaveTheSink, OtherFaultsWriteNoVerdict, VerdictsAreOnWhatWasRead, WantsAreForVerdicts, AcceptedCostsAreLeast, AcceptedBoundsAreBelow, RefusedInputsHaveTheFault}
 use Rattle.outcomes.specs.declared.outcome.Outcome.TheVariants as outcome
 use Rattle.certificate_runs.specs.declared.faults.CertifyFault.TheVariants as certify
 use Rattle.certificate_runs.specs.declared.faults.CheckFault.TheVariants as check
@@ -637,3 +637,37 @@ drawings_written style source sink status input known empty drawn = by_end (subs
     by_end : WritesShow style sink status input → ((c : CertificateModel) × (drawing : List ℕ) × (certificate input ≡ Ok (c, [])) × ItsPlanLeads c × IsDrawing style c drawing × (sink.after.contents ≡ Some drawing) × (status ≡ 0)) ⊎ ((code : List ℕ) × IsMistaken input code × (sink.after.contents ≡ Some (report_text (refused_certificate_data code))) × (status ≡ 5))
     by_end (inl (c, drawing, read, leads, draws, put, is)) = inl (c, drawing, read, leads, draws, held sink.before.contents sink.after.contents drawing empty put, is)
     by_end (inr (code, mistaken, put, is)) = inr (code, mistaken, held sink.before.contents sink.after.contents (report_text (refused_certificate_data code)) empty put, is)
+
+-- ---- what answers the line that asks
+
+module _ (rules : ProofRules) where
+  pub unasked : UnaskedLinesAreSilent rules
+  unasked split lines output none (by_none also empty) = empty
+  unasked split lines output none (by_certificate n line id b c asked names certifies) =
+      let one = ap (λ (asking : List (ℕ × List ℕ)). length asking) (sym none ∙ asked) in
+      absurd (omega (arith, one))
+  unasked split lines output none (by_report n line asked tells lacks) =
+      let one = ap (λ (asking : List (ℕ × List ℕ)). length asking) (sym none ∙ asked) in
+      absurd (omega (arith, one))
+
+  pub certificates_answer : CertificatesAnswerTheQuestion rules
+  certificates_answer split lines output n line no_reply asked (by_none unasked empty) =
+      let one = ap (λ (asking : List (ℕ × List ℕ)). length asking) (sym unasked ∙ asked) in
+      absurd (omega (arith, one))
+  certificates_answer split lines output n line no_reply asked (by_certificate m other id b c also names certifies) =
+      let same : other ≡ line = ap (λ (asking : List (ℕ × List ℕ)). (get_or asking 0 (0, [])).1) (sym also ∙ asked) in
+      (id, b, c, subst (λ (l : List ℕ). Names rules.grid l id b) same names, certifies)
+  certificates_answer split lines output n line no_reply asked (by_report m other also tells lacks) =
+      let many = tells.one_each in
+      let one = ap (λ (asking : List (ℕ × List ℕ)). length asking) asked in
+      let reply = tells.json 0 (omega (arith, many, one)) in
+      absurd (no_reply reply.0 reply.1)
+
+  pub reports_answer : ReportsAnswerTheQuestion rules
+  reports_answer split lines output n line none asked (by_none unasked empty) =
+      let one = ap (λ (asking : List (ℕ × List ℕ)). length asking) (sym unasked ∙ asked) in
+      absurd (omega (arith, one))
+  reports_answer split lines output n line none asked (by_certificate m other id b c also names certifies) = absurd (none c certifies.read)
+  reports_answer split lines output n line none asked (by_report m other also tells lacks) =
+      let same : other ≡ line = ap (λ (asking : List (ℕ × List ℕ)). (get_or asking 0 (0, [])).1) (sym also ∙ asked) in
+      (tells, subst (λ (l : List ℕ). BoundsLackRows rules l output) same lacks)

@@ -24,6 +24,7 @@ use Rattle.byte_streams.specs.Streams.{SourceState, SinkState, Change}
 use Rattle.batch_runs.specs.Batches.{AnswersLine}
 use Rattle.batch_runs.specs.Batches.Answer.{answered}
 use Rattle.batch_runs.specs.Meanings.{questions, Names, IsReply}
+use Rattle.batch_runs.specs.Headline.{TellsTheTruth}
 use Rattle.pattern_index.specs.Partitions.{PartitionModel}
 use Rattle.certificate_runs.specs.Headline.{AnswersFirst, CertifiesTruly, IsTrueAnswer, BoundsLackRows, IsTrueVerdict, IsCertificateRefusedBy, IsTrueCheck, IsTrueUpgrade, IsMistaken, IsTrueShow}
 use Rattle.board.specs.Boards.{BoardModel}
@@ -63,6 +64,28 @@ OtherFaultsWriteNoVerdict = (source : Change SourceState) (sink : Change SinkSta
 -- where nothing is written for lines, none of them asks for an answer
 abbrev pub SilenceIsUnasked : ProofRules → Type 0
 SilenceIsUnasked rules = (split : PartitionModel) (lines : List (List ℕ)) → AnswersFirst split rules lines [] → questions 1 lines ≡ []
+
+-- and where none of them asks, nothing is written for them
+abbrev pub UnaskedLinesAreSilent : ProofRules → Type 0
+UnaskedLinesAreSilent rules = (split : PartitionModel) (lines : List (List ℕ)) (output : List ℕ) → questions 1 lines ≡ [] → AnswersFirst split rules lines output → output ≡ []
+
+-- where a line asks, an output whose first line is no JSON is a certificate that says the truth of the board that the line names
+abbrev pub CertificatesAnswerTheQuestion : ProofRules → Type 0
+CertificatesAnswerTheQuestion rules =
+    (split : PartitionModel) (lines : List (List ℕ)) (output : List ℕ) (n : ℕ) (line : List ℕ)
+    → ((d : Data) → ¬ IsReply output 0 d)
+    → questions 1 lines ≡ (n, line) ∷ []
+    → AnswersFirst split rules lines output
+    → (id : List ℕ) × (b : BoardModel) × (c : CertificateModel) × Names rules.grid line id b × CertifiesTruly split (rules.task b) c output
+
+-- and an output that is no certificate is a report that tells the truth of that line, and says no bound that has rows
+abbrev pub ReportsAnswerTheQuestion : ProofRules → Type 0
+ReportsAnswerTheQuestion rules =
+    (split : PartitionModel) (lines : List (List ℕ)) (output : List ℕ) (n : ℕ) (line : List ℕ)
+    → ((c : CertificateModel) → certificate output ≢ Ok (c, []))
+    → questions 1 lines ≡ (n, line) ∷ []
+    → AnswersFirst split rules lines output
+    → TellsTheTruth (report_rules rules) lines output × BoundsLackRows rules line output
 
 -- where the input is known and the sink was empty, a run that ends well leaves an answer to the input's first lines
 abbrev pub FirstLinesAreAnswered : ProofRules → Type 0

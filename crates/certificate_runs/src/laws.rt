@@ -3,6 +3,8 @@
 ghost use Rattle.certificate_runs.specs.Laws.{OtherFaultsLeaveTheSink, OtherFaultsWriteNoVerdict};
 ghost use Rattle.certificate_runs.specs.Laws.{SilenceIsUnasked, LeastPlansAreCertified};
 ghost use Rattle.certificate_runs.specs.Laws.{FirstLinesAreAnswered, SilentRunsAreUnasked};
+ghost use Rattle.certificate_runs.specs.Laws.{UnaskedLinesAreSilent, ReportsAnswerTheQuestion};
+ghost use Rattle.certificate_runs.specs.Laws.{CertificatesAnswerTheQuestion};
 ghost use Rattle.certificate_runs.specs.Laws.{BoundsAreCertified, ClaimsAreOfEndings};
 ghost use Rattle.certificate_runs.specs.Laws.{StatusesTellClaims};
 ghost use Rattle.certificate_runs.specs.Laws.{ReportedBoundsLackRows, OutcomesWithRowsAreCertified};
@@ -34,13 +36,17 @@ pub fn other_faults_write_no_verdict()
     ensures { OtherFaultsWriteNoVerdict }
 {}
 
-/// Where nothing is written for lines, none of them asks for an answer. Where the input is known and
-/// the sink was empty, a run that ends well leaves there an answer to the input's first lines, and
-/// nothing only where no line of the input asks for one.
+/// Nothing is written for lines exactly where none of them asks for an answer. Else a certificate is
+/// of the board that the one line which asks names, and what is no certificate is its report. Where
+/// the input is known and the sink was empty, a run that ends well leaves there an answer to the
+/// input's first lines, and nothing only where no line of the input asks for one.
 pub fn silence_is_unasked<A: ProofRuled>(asked: &A)
     ensures lines { SilenceIsUnasked (A.rules asked.now) }
     ensures first { FirstLinesAreAnswered (A.rules asked.now) }
     ensures runs { SilentRunsAreUnasked (A.rules asked.now) }
+    ensures unasked { UnaskedLinesAreSilent (A.rules asked.now) }
+    ensures certificates { CertificatesAnswerTheQuestion (A.rules asked.now) }
+    ensures reports { ReportsAnswerTheQuestion (A.rules asked.now) }
 {
     let _ = asked;
 }
