@@ -70,7 +70,7 @@ use Rattle.certificate_runs.specs.Checking.{claim_data, IsJudgement, IsVerdictOu
 use Rattle.certificate_runs.specs.Headline.{BoundsLackRows, CertifiesTruly, ClaimsTruly, AnswersFirst, WritesAnswer, IsTrueAnswer, IsCertificateRefusedBy, SaysOf, IsTrueVerdict, WritesVerdict, IsTrueCheck, WritesUpgrade, IsTrueUpgrade, WritesShow, IsMistaken}
 use Rattle.certificate_runs.specs.Headline.AnswersFirst.{by_none, by_certificate, by_report}
 use Rattle.certificate_runs.proofs.CertifyLemmas.{silence}
-use Rattle.certificate_runs.specs.Laws.{UnaskedLinesAreSilent, CertificatesAnswerTheQuestion, ReportsAnswerTheQuestion, CertifiedPlansAreLeast, CertifiedBoundsAreBelow, CertificatesAreOfTasks, CertificatesAreProved, FaultyInputsHaveTheirCode, RefusedCertificatesHaveACause, VerdictsAreWritten, UpgradesAreWritten, DrawingsAreWritten, FirstLinesAreAnswered, SilentRunsAreUnasked, CertificatesAreOfOutcomes, WantsAreOfRules, GroupsAreWantedForRows, SaidBoundsLackRows, OutcomesWithRowsAreCertified, ReportedBoundsLackRows, BoundsAreCertified, ClaimsAreOfEndings, LeastPlansAreCertified, StatusesTellClaims, OtherFaultsLeaveTheSink, OtherFaultsWriteNoVerdict, VerdictsAreOnWhatWasRead, WantsAreForVerdicts, AcceptedCostsAreLeast, AcceptedBoundsAreBelow, RefusedInputsHaveTheFault}
+use Rattle.certificate_runs.specs.Laws.{UnaskedLinesAreSilent, CertificatesAnswerTheQuestion, ReportsAnswerTheQuestion, CertifiedPlansAreLeast, CertifiedBoundsAreBelow, CertificatesAreOfTasks, CertificatesAreProved, FaultyInputsHaveTheirCode, RefusedCertificatesHaveACause, MistakenInputsHaveTheirCode, MistakenCertificatesHaveACause, VerdictsAreWritten, UpgradesAreWritten, DrawingsAreWritten, FirstLinesAreAnswered, SilentRunsAreUnasked, CertificatesAreOfOutcomes, WantsAreOfRules, GroupsAreWantedForRows, SaidBoundsLackRows, OutcomesWithRowsAreCertified, ReportedBoundsLackRows, BoundsAreCertified, ClaimsAreOfEndings, LeastPlansAreCertified, StatusesTellClaims, OtherFaultsLeaveTheSink, OtherFaultsWriteNoVerdict, VerdictsAreOnWhatWasRead, WantsAreForVerdicts, AcceptedCostsAreLeast, AcceptedBoundsAreBelow, RefusedInputsHaveTheFault}
 use Rattle.outcomes.specs.declared.outcome.Outcome.TheVariants as outcome
 use Rattle.certificate_runs.specs.declared.faults.CertifyFault.TheVariants as certify
 use Rattle.certificate_runs.specs.declared.faults.CheckFault.TheVariants as check
@@ -608,7 +608,17 @@ pub refused_cause : RefusedCertificatesHaveACause
 refused_cause input code c read (inl (fault, first, is)) = absurd (no_fault input c fault read first)
 refused_cause input code c read (inr (d, tables, refusal, other, built, cause, is)) =
     let same : d ≡ c = one_certificate input c d read other in
-    record { tables = tables; refusal = refusal; built = subst (λ (e : CertificateModel). AreBuiltFor e tables) same built; first = subst (λ (e : CertificateModel). IsFirstRefusal e tables refusal) same cause; told = is }
+    record { tables = tables; built = subst (λ (e : CertificateModel). AreBuiltFor e tables) same built; cause = record { refusal = refusal; first = subst (λ (e : CertificateModel). IsFirstRefusal e tables refusal) same cause; told = is } }
+
+pub mistaken_code : MistakenInputsHaveTheirCode
+mistaken_code input code fault first (inl (other, found, is)) = is ∙ ap format_code (one_first_fault input fault other first found)
+mistaken_code input code fault first (inr (c, refusal, read, cause, is)) = absurd (no_fault input c fault read first)
+
+pub mistaken_cause : MistakenCertificatesHaveACause
+mistaken_cause input code c tables read (inl (fault, first, is)) = absurd (no_fault input c fault read first)
+mistaken_cause input code c tables read (inr (d, refusal, other, cause, is)) =
+    let same : d ≡ c = one_certificate input c d read other in
+    record { refusal = refusal; first = subst (λ (e : CertificateModel). IsFirstRefusal e tables refusal) same (cause tables); told = is }
 
 -- ---- what a sink holds in the end
 

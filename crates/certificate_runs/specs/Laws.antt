@@ -230,17 +230,30 @@ RefusedInputsHaveTheFault = (input code : List ℕ) → IsTrueVerdict input (ref
 abbrev pub FaultyInputsHaveTheirCode : Type 0
 FaultyInputsHaveTheirCode = (input code : List ℕ) (fault : FormatFault) → IsFirstFormatFault input fault → IsCertificateRefusedBy input code → code ≡ format_code fault
 
--- the first cause against a certificate, with the tables of its groups, has this code
-pub record HasCauseOf (code : List ℕ) (c : CertificateModel) : Type 0 where
-  pub tables : BoundModel
+-- the first cause against a certificate with these tables has this code
+pub record HasFirstCause (c : CertificateModel) (tables : BoundModel) (code : List ℕ) : Type 0 where
   pub refusal : Refusal
-  pub built : AreBuiltFor c tables
   pub first : IsFirstRefusal c tables refusal
   pub told : code ≡ refusal_code refusal
 
--- and one that is a certificate is refused only with the code of the first cause against it
+-- so it is with the tables of its groups
+pub record HasCause (c : CertificateModel) (code : List ℕ) : Type 0 where
+  pub tables : BoundModel
+  pub built : AreBuiltFor c tables
+  pub cause : HasFirstCause c tables code
+
+-- an input that is a certificate is refused only with the code of the first cause against it, with the tables of its groups
 abbrev pub RefusedCertificatesHaveACause : Type 0
-RefusedCertificatesHaveACause = (input code : List ℕ) (c : CertificateModel) → certificate input ≡ Ok (c, []) → IsCertificateRefusedBy input code → HasCauseOf code c
+RefusedCertificatesHaveACause = (input code : List ℕ) (c : CertificateModel) → certificate input ≡ Ok (c, []) → IsCertificateRefusedBy input code → HasCause c code
+
+-- so it is of what is wrong with an input that is to be drawn: the first fault of its bytes
+abbrev pub MistakenInputsHaveTheirCode : Type 0
+MistakenInputsHaveTheirCode = (input code : List ℕ) (fault : FormatFault) → IsFirstFormatFault input fault → IsMistaken input code → code ≡ format_code fault
+
+-- or the first cause against the certificate, with any tables
+abbrev pub MistakenCertificatesHaveACause : Type 0
+MistakenCertificatesHaveACause =
+    (input code : List ℕ) (c : CertificateModel) (tables : BoundModel) → certificate input ≡ Ok (c, []) → IsMistaken input code → HasFirstCause c tables code
 
 -- where the input is known and the sink was empty, a check that ends well leaves there one line with its line feed, which is read as JSON and
 -- says the truth of the input

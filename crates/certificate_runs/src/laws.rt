@@ -17,6 +17,8 @@ ghost use Rattle.certificate_runs.specs.Laws.{CertifiedPlansAreLeast, CertifiedB
 ghost use Rattle.certificate_runs.specs.Laws.{CertificatesAreOfTasks, CertificatesAreProved};
 ghost use Rattle.certificate_runs.specs.Laws.{FaultyInputsHaveTheirCode};
 ghost use Rattle.certificate_runs.specs.Laws.{RefusedCertificatesHaveACause};
+ghost use Rattle.certificate_runs.specs.Laws.{MistakenInputsHaveTheirCode};
+ghost use Rattle.certificate_runs.specs.Laws.{MistakenCertificatesHaveACause};
 ghost use Rattle.certificate_runs.specs.Laws.{VerdictsAreWritten, UpgradesAreWritten};
 ghost use Rattle.certificate_runs.specs.Laws.{DrawingsAreWritten};
 
@@ -36,10 +38,10 @@ pub fn other_faults_write_no_verdict()
     ensures { OtherFaultsWriteNoVerdict }
 {}
 
-/// Nothing is written for lines exactly where none of them asks for an answer. Else a certificate is
-/// of the board that the one line which asks names, and what is no certificate is its report. Where
-/// the input is known and the sink was empty, a run that ends well leaves there an answer to the
-/// input's first lines, and nothing only where no line of the input asks for one.
+/// Nothing is written for lines exactly where none of them asks for an answer. Else one line asks,
+/// and what is no report is a certificate of the board that it names. Where the input is known and
+/// the sink was empty, a run that ends well leaves there an answer to the input's first lines, and
+/// nothing only where no line of the input asks for one.
 pub fn silence_is_unasked<A: ProofRuled>(asked: &A)
     ensures lines { SilenceIsUnasked (A.rules asked.now) }
     ensures first { FirstLinesAreAnswered (A.rules asked.now) }
@@ -71,8 +73,8 @@ pub fn outcomes_with_rows_are_certified<A: ProofRuled>(asked: &A)
 }
 
 /// A certificate that answers a task is of the task's start, goal and costs, and its rows prove it.
-/// A plan that it claims is a least one of the task, and no plan of the task costs less than a bound
-/// that it claims.
+/// A plan that it claims is a least one of the task, and no plan of the task costs less than a
+/// bound that it claims.
 #[tactic(auto, using(crate::proofs::HeadlineLemmas::certified_least, crate::proofs::HeadlineLemmas::certified_below, crate::proofs::HeadlineLemmas::certified_task, crate::proofs::HeadlineLemmas::certified_proved))]
 pub fn certificates_tell_of_tasks()
     ensures plans { CertifiedPlansAreLeast }
@@ -110,15 +112,17 @@ pub fn verdicts_tell_of_plans()
 {}
 
 /// An input is refused with the code of its first fault, or of the first cause against the
-/// certificate that it is.
-#[tactic(auto, using(crate::proofs::HeadlineLemmas::faulty_code, crate::proofs::HeadlineLemmas::refused_cause))]
+/// certificate that it is. So it is where the input is to be drawn.
+#[tactic(auto, using(crate::proofs::HeadlineLemmas::faulty_code, crate::proofs::HeadlineLemmas::refused_cause, crate::proofs::HeadlineLemmas::mistaken_code, crate::proofs::HeadlineLemmas::mistaken_cause))]
 pub fn refusals_have_their_code()
     ensures faults { FaultyInputsHaveTheirCode }
     ensures causes { RefusedCertificatesHaveACause }
+    ensures mistakes { MistakenInputsHaveTheirCode }
+    ensures plans { MistakenCertificatesHaveACause }
 {}
 
-/// Where the input is known and the sink was empty, a run that ends well leaves there a true verdict
-/// on the input, its spelling in version 2, or its drawing, and nothing else.
+/// Where the input is known and the sink was empty, a run that ends well leaves there a true
+/// verdict on the input, its spelling in version 2, or its drawing, and nothing else.
 #[tactic(auto, using(crate::proofs::HeadlineLemmas::verdicts_written, crate::proofs::HeadlineLemmas::upgrades_written, crate::proofs::HeadlineLemmas::drawings_written))]
 pub fn runs_leave_what_they_tell()
     ensures verdicts { VerdictsAreWritten }
