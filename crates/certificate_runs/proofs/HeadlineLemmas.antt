@@ -33,7 +33,7 @@ use Rattle.batch_lines.specs.declared.lines.LineKind.TheVariants.{PassedOver, To
 use Rattle.batch_lines.specs.Words.{entry_code}
 use Rattle.batch_lines.specs.Lines.{line_kind_of, without_return, lines_of, onto_first, is_passed_over}
 use Rattle.reports.specs.Reports.{outcome_data, refused_data, accepted_data, accepted_bound_data, refused_certificate_data, report_text}
-use Rattle.reports.specs.Readings.{HasSmallNumbers, HasStatus, IsReport, IsSmall, SaysNumber}
+use Rattle.reports.specs.Readings.{HasSmallNumbers, HasStatus, IsReport, IsSmall, SaysText, SaysNumber}
 use Rattle.reports.specs.Readings.IsReport.{of_outcome, of_line, of_cost, of_bound, of_certificate}
 use Rattle.reports.proofs.ReadLemmas.{report_read}
 use Rattle.reports.proofs.TextLemmas.{text_other}
@@ -67,10 +67,10 @@ use Rattle.certificate_runs.specs.declared.faults.UpgradeFault.{UpgradeFault}
 use Rattle.certificate_runs.specs.declared.faults.UpgradeFault.TheVariants.{CertificateRead, CertificateMemory}
 use Rattle.certificate_runs.specs.Upgrading.{EndsUpgrade, Upgrades}
 use Rattle.certificate_runs.specs.Checking.{claim_data, IsJudgement, IsVerdictOutput, Checks}
-use Rattle.certificate_runs.specs.Headline.{BoundsLackRows, CertifiesTruly, ClaimsTruly, AnswersFirst, WritesAnswer, IsTrueAnswer, IsCertificateRefusedBy, SaysOf, IsTrueVerdict, WritesVerdict, IsTrueCheck, WritesUpgrade, IsTrueUpgrade, WritesShow, IsMistaken}
+use Rattle.certificate_runs.specs.Headline.{BoundsLackRows, CertifiesTruly, ClaimsTruly, AnswersFirst, WritesAnswer, IsTrueAnswer, IsCertificateRefusedBy, SaysOf, SaysClaim, IsTrueVerdict, WritesVerdict, IsTrueCheck, WritesUpgrade, IsTrueUpgrade, WritesShow, IsMistaken}
 use Rattle.certificate_runs.specs.Headline.AnswersFirst.{by_none, by_certificate, by_report}
 use Rattle.certificate_runs.proofs.CertifyLemmas.{silence}
-use Rattle.certificate_runs.specs.Laws.{UnaskedLinesAreSilent, CertificatesAnswerTheQuestion, ReportsAnswerTheQuestion, CertifiedPlansAreLeast, CertifiedBoundsAreBelow, CertificatesAreOfTasks, CertificatesAreProved, FaultyInputsHaveTheirCode, RefusedCertificatesHaveACause, MistakenInputsHaveTheirCode, MistakenCertificatesHaveACause, VerdictsAreWritten, UpgradesAreWritten, DrawingsAreWritten, FirstLinesAreAnswered, SilentRunsAreUnasked, CertificatesAreOfOutcomes, WantsAreOfRules, GroupsAreWantedForRows, SaidBoundsLackRows, OutcomesWithRowsAreCertified, ReportedBoundsLackRows, BoundsAreCertified, ClaimsAreOfEndings, LeastPlansAreCertified, StatusesTellClaims, OtherFaultsLeaveTheSink, OtherFaultsWriteNoVerdict, VerdictsAreOnWhatWasRead, WantsAreForVerdicts, AcceptedCostsAreLeast, AcceptedBoundsAreBelow, RefusedInputsHaveTheFault}
+use Rattle.certificate_runs.specs.Laws.{VerdictsAcceptOrRefuse, UnaskedLinesAreSilent, CertificatesAnswerTheQuestion, ReportsAnswerTheQuestion, CertifiedPlansAreLeast, CertifiedBoundsAreBelow, CertificatesAreOfTasks, CertificatesAreProved, FaultyInputsHaveTheirCode, RefusedCertificatesHaveACause, MistakenInputsHaveTheirCode, MistakenCertificatesHaveACause, VerdictsAreWritten, UpgradesAreWritten, DrawingsAreWritten, FirstLinesAreAnswered, SilentRunsAreUnasked, CertificatesAreOfOutcomes, WantsAreOfRules, GroupsAreWantedForRows, SaidBoundsLackRows, OutcomesWithRowsAreCertified, ReportedBoundsLackRows, BoundsAreCertified, ClaimsAreOfEndings, LeastPlansAreCertified, StatusesTellClaims, OtherFaultsLeaveTheSink, OtherFaultsWriteNoVerdict, VerdictsAreOnWhatWasRead, WantsAreForVerdicts, AcceptedCostsAreLeast, AcceptedBoundsAreBelow, RefusedInputsHaveTheFault}
 use Rattle.outcomes.specs.declared.outcome.Outcome.TheVariants as outcome
 use Rattle.certificate_runs.specs.declared.faults.CertifyFault.TheVariants as certify
 use Rattle.certificate_runs.specs.declared.faults.CheckFault.TheVariants as check
@@ -568,6 +568,13 @@ refused_by input code verdict =
     let said = verdict.refused refl in
     let same : code ≡ said.0 = ap said_text said.1 in
     subst (IsCertificateRefusedBy input) (sym same) said.2
+
+pub either_said : VerdictsAcceptOrRefuse
+either_said input d verdict = by_status verdict.status
+  where
+    by_status : HasStatus d (codes "accepted") ⊎ HasStatus d (codes "refused") → (HasStatus d (codes "accepted") × SaysClaim input d) ⊎ (HasStatus d (codes "refused") × ((code : List ℕ) × SaysText d (codes "fault") code × IsCertificateRefusedBy input code))
+    by_status (inl accepted) = inl (accepted, verdict.accepted accepted)
+    by_status (inr refused) = inr (refused, verdict.refused refused)
 
 -- ---- what a certificate says of its task
 

@@ -15,7 +15,7 @@ use Rattle.outcomes.specs.Endings.{without_rows}
 use Rattle.outcomes.specs.Outcomes.{Task, StandsAlone}
 use Rattle.memory.specs.declared.OutOfMemory.{OutOfMemory}
 use Rattle.serde_json.specs.Data.{Data}
-use Rattle.reports.specs.Readings.{Reads, SaysNumber, HasStatus}
+use Rattle.reports.specs.Readings.{Reads, SaysText, SaysNumber, HasStatus}
 use Rattle.reports.specs.Reports.{accepted_data, accepted_bound_data, refused_certificate_data, report_text}
 use Rattle.batch_lines.specs.Words.{IsEntry}
 use Rattle.batch_lines.specs.Lines.{lines_of}
@@ -26,7 +26,7 @@ use Rattle.batch_runs.specs.Batches.Answer.{answered}
 use Rattle.batch_runs.specs.Meanings.{questions, Names, IsReply}
 use Rattle.batch_runs.specs.Headline.{TellsTheTruth}
 use Rattle.pattern_index.specs.Partitions.{PartitionModel}
-use Rattle.certificate_runs.specs.Headline.{AnswersFirst, CertifiesTruly, IsTrueAnswer, BoundsLackRows, IsTrueVerdict, IsCertificateRefusedBy, IsTrueCheck, IsTrueUpgrade, IsMistaken, IsTrueShow}
+use Rattle.certificate_runs.specs.Headline.{AnswersFirst, CertifiesTruly, IsTrueAnswer, BoundsLackRows, IsTrueVerdict, SaysClaim, IsCertificateRefusedBy, IsTrueCheck, IsTrueUpgrade, IsMistaken, IsTrueShow}
 use Rattle.board.specs.Boards.{BoardModel}
 use Rattle.board.specs.Plans.{Leads, NothingBelow, IsLeast}
 use Rattle.certificate.specs.Certificates.{CertificateModel, upgraded}
@@ -226,6 +226,13 @@ AcceptedBoundsAreBelow =
 abbrev pub RefusedInputsHaveTheFault : Type 0
 RefusedInputsHaveTheFault = (input code : List ℕ) → IsTrueVerdict input (refused_certificate_data code) → IsCertificateRefusedBy input code
 
+-- what is true of an input accepts it, and says what it claims; or it refuses it, and says the code of the fault by which it is refused
+abbrev pub VerdictsAcceptOrRefuse : Type 0
+VerdictsAcceptOrRefuse =
+    (input : List ℕ) (d : Data)
+    → IsTrueVerdict input d
+    → (HasStatus d (codes "accepted") × SaysClaim input d) ⊎ (HasStatus d (codes "refused") × ((code : List ℕ) × SaysText d (codes "fault") code × IsCertificateRefusedBy input code))
+
 -- an input with a first fault is refused only with this fault's code
 abbrev pub FaultyInputsHaveTheirCode : Type 0
 FaultyInputsHaveTheirCode = (input code : List ℕ) (fault : FormatFault) → IsFirstFormatFault input fault → IsCertificateRefusedBy input code → code ≡ format_code fault
@@ -236,7 +243,7 @@ pub record HasFirstCause (c : CertificateModel) (tables : BoundModel) (code : Li
   pub first : IsFirstRefusal c tables refusal
   pub told : code ≡ refusal_code refusal
 
--- so it is with the tables of its groups
+-- with the tables of its groups the first cause against it has this code
 pub record HasCause (c : CertificateModel) (code : List ℕ) : Type 0 where
   pub tables : BoundModel
   pub built : AreBuiltFor c tables
@@ -246,11 +253,11 @@ pub record HasCause (c : CertificateModel) (code : List ℕ) : Type 0 where
 abbrev pub RefusedCertificatesHaveACause : Type 0
 RefusedCertificatesHaveACause = (input code : List ℕ) (c : CertificateModel) → certificate input ≡ Ok (c, []) → IsCertificateRefusedBy input code → HasCause c code
 
--- so it is of what is wrong with an input that is to be drawn: the first fault of its bytes
+-- what is wrong with an input that is to be drawn has the code of the first fault of its bytes
 abbrev pub MistakenInputsHaveTheirCode : Type 0
 MistakenInputsHaveTheirCode = (input code : List ℕ) (fault : FormatFault) → IsFirstFormatFault input fault → IsMistaken input code → code ≡ format_code fault
 
--- or the first cause against the certificate, with any tables
+-- or of the first cause against the certificate that it is, with any tables
 abbrev pub MistakenCertificatesHaveACause : Type 0
 MistakenCertificatesHaveACause =
     (input code : List ℕ) (c : CertificateModel) (tables : BoundModel) → certificate input ≡ Ok (c, []) → IsMistaken input code → HasFirstCause c tables code

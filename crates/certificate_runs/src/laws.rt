@@ -12,7 +12,7 @@ ghost use Rattle.certificate_runs.specs.Laws.{CertificatesAreOfOutcomes, WantsAr
 ghost use Rattle.certificate_runs.specs.Laws.{GroupsAreWantedForRows, SaidBoundsLackRows};
 ghost use Rattle.certificate_runs.specs.Laws.{VerdictsAreOnWhatWasRead, WantsAreForVerdicts};
 ghost use Rattle.certificate_runs.specs.Laws.{AcceptedCostsAreLeast, AcceptedBoundsAreBelow};
-ghost use Rattle.certificate_runs.specs.Laws.{RefusedInputsHaveTheFault};
+ghost use Rattle.certificate_runs.specs.Laws.{RefusedInputsHaveTheFault, VerdictsAcceptOrRefuse};
 ghost use Rattle.certificate_runs.specs.Laws.{CertifiedPlansAreLeast, CertifiedBoundsAreBelow};
 ghost use Rattle.certificate_runs.specs.Laws.{CertificatesAreOfTasks, CertificatesAreProved};
 ghost use Rattle.certificate_runs.specs.Laws.{FaultyInputsHaveTheirCode};
@@ -104,11 +104,12 @@ pub fn verdicts_are_on_what_was_read()
 
 /// A verdict that is true of an input says of a certificate that its plan is least, or that no plan
 /// costs less than its bound; or it says the fault by which the input is refused.
-#[tactic(auto, using(crate::proofs::HeadlineLemmas::accepted_least, crate::proofs::HeadlineLemmas::accepted_below, crate::proofs::HeadlineLemmas::refused_by))]
+#[tactic(auto, using(crate::proofs::HeadlineLemmas::accepted_least, crate::proofs::HeadlineLemmas::accepted_below, crate::proofs::HeadlineLemmas::refused_by, crate::proofs::HeadlineLemmas::either_said))]
 pub fn verdicts_tell_of_plans()
     ensures costs { AcceptedCostsAreLeast }
     ensures bounds { AcceptedBoundsAreBelow }
     ensures refused { RefusedInputsHaveTheFault }
+    ensures either { VerdictsAcceptOrRefuse }
 {}
 
 /// An input is refused with the code of its first fault, or of the first cause against the
