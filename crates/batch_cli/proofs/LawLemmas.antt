@@ -293,7 +293,7 @@ WritesTruth-kept : (rules : Rules) (source : Change SourceState) (a b c : SinkSt
 WritesTruth-kept rules source a b c status all kept = record { lines = all.lines; output = all.output; all = all.all; put = Appends-kept a.contents b.contents c.contents all.output all.put kept; truth = all.truth; settled = all.settled }
 
 WritesAnswer-kept : (split : PartitionModel) (rules : ProofRules) (source : Change SourceState) (a b c : SinkState) → WritesAnswer split rules source (from_to a b) → PutsNone (from_to b c) → WritesAnswer split rules source (from_to a c)
-WritesAnswer-kept split rules source a b c all kept = record { lines = all.lines; output = all.output; first = all.first; put = Appends-kept a.contents b.contents c.contents all.output all.put kept; answer = all.answer }
+WritesAnswer-kept split rules source a b c all kept = record { lines = all.lines; output = all.output; first = all.first; put = Appends-kept a.contents b.contents c.contents all.output all.put kept; answer = all.answer; silent = all.silent }
 
 WritesVerdict-kept : (a b c : SinkState) (input : List ℕ) → WritesVerdict (from_to a b) input → PutsNone (from_to b c) → WritesVerdict (from_to a c) input
 WritesVerdict-kept a b c input all kept = record { line = all.line; value = all.value; put = Appends-kept a.contents b.contents c.contents _ all.put kept; json = all.json; truth = all.truth }
