@@ -24,12 +24,13 @@ use Rattle.clap.specs.declared.parser.matches.ArgMatches.TheViews.{out-ArgMatche
 use Rattle.clap.specs.declared.parser.matches.SubCommand.{SubCommand}
 use Rattle.clap.specs.declared.builder.value_parser.ValueParser.{ValueParser}
 use Rattle.command_line.specs.Commands.{Choices, program_app, parsed_rule, AreChoices, IsProgram, IsReadAs}
-use Rattle.command_line.specs.Requests.{HasNumber, HasCount, IsLeftOut, HasShape, spread_text, IsGoalSaid, IsGoalFault, AreCostsSaid, IsCostsFault, AreGroupsSaid, IsGroupsFault, AreOptions, OptionsFail, RunFails, AsksRun, AsksText, TextFails, WordsAsk, WordsFail}
+use Rattle.command_line.specs.Requests.{HasNumber, HasCount, IsLeftOut, IsStyle, HasShape, spread_text, IsGoalSaid, IsGoalFault, AreCostsSaid, IsCostsFault, AreGroupsSaid, IsGroupsFault, AreOptions, OptionsFail, RunFails, AsksRun, AsksText, TextFails, WordsAsk, WordsFail}
 use Rattle.command_line.specs.declared.faults.NoRequest.TheVariants.{Usage, Goal, Costs, Groups, NoListing, Memory}
 use Rattle.command_line.specs.declared.requests.Request.{Request}
 use Rattle.command_line.specs.declared.requests.Request.TheVariants.{Solve, Certify, Check, Draw, Upgrade, Replay, Boards, Help, Version}
 use Rattle.batch_runs.specs.declared.setup.SpreadKind.{SpreadKind}
 use Rattle.batch_runs.specs.declared.setup.SpreadKind.TheVariants.{Zobrist, Blank, Abstract}
+use Rattle.drawings.specs.declared.drawing.Style.{Style}
 use Rattle.drawings.specs.declared.drawing.Style.TheVariants as style
 use Rattle.command_line.specs.declared.faults.NoRequest.{NoRequest}
 use Rattle.board.specs.Shapes.{ShapeModel}
@@ -46,7 +47,8 @@ use Rattle.option_texts.proofs.TextLemmas.{one_goal, no_goal_fault}
 use Rattle.option_texts.proofs.CostLemmas.{one_rule, no_costs_fault}
 use Rattle.option_texts.proofs.LawLemmas.{no_groups_fault}
 use Rattle.command_line.specs.declared.requests.Options.{Options}
-use Rattle.command_line.specs.Laws.{IsWant, SearchesAreSaid, OptionsAreDetermined, ListingsAreDetermined, StylesAreDetermined, CertIsSaid, TextsAreOfFaults, UsageIsOfFaults}
+use Rattle.command_line.specs.Laws.{IsWant, SearchesAreSaid, OptionsAreDetermined, ListingsAreDetermined, StylesAreDetermined, CertIsSaid, TextsAreOfFaults, UsageIsOfFaults, command_of, RequestsAreOfTheirCommands, RunsAreSaid, RunsWithoutBoardsAreAsked, RefusalsAreOfOptions, ListingsAreJudgedBeforeGoals, ChoicesAreThree}
+use Rattle.command_line.specs.Worked.{WordsAskOneThing}
 use Rattle.command_line.specs.Requests.{IsChoice, SaysListing, IsListFault, ListingFails}
 use Rattle.command_line.specs.declared.requests.Listing.{Listing}
 use Rattle.command_line.specs.declared.faults.ListFault.TheVariants.{NotAlone, TooManyCells}
@@ -396,3 +398,120 @@ usage_of_fault faults (Costs fault) fails = absurd fails
 usage_of_fault faults (Groups fault) fails = absurd fails
 usage_of_fault faults (NoListing fault) fails = absurd fails
 usage_of_fault faults Memory fails = inl refl
+
+-- ---- which subcommand asks for a run, and why it asks for none
+
+pub one_command : RequestsAreOfTheirCommands
+one_command name rows (Solve o) asks = ap Some (sym asks.0)
+one_command name rows (Certify o) asks = ap Some (sym asks.0)
+one_command name rows Check asks = ap Some (sym asks)
+one_command name rows (Draw look) asks = ap Some (sym asks.0)
+one_command name rows Upgrade asks = ap Some (sym asks)
+one_command name rows (Replay o) asks = ap Some (sym asks.0)
+one_command name rows (Boards l) asks = ap Some (sym asks.0)
+one_command name rows (Help text) asks = absurd asks
+one_command name rows (Version text) asks = absurd asks
+
+pub run_said : RunsAreSaid
+run_said name rows o look l = ((λ asks. asks.1), (λ asks. asks.1), (λ asks. asks.1), (λ asks. asks.1), (λ asks. asks.1))
+
+pub always_asked : RunsWithoutBoardsAreAsked
+always_asked rows refusal = ((λ fails. fails.0 refl), (λ fails. fails.1 refl), (λ fails. fails.2 refl))
+
+pub refusal_of_options : RefusalsAreOfOptions
+refusal_of_options name rows refusal fails = (fails.3, fails.4)
+
+pub listing_before_goal : ListingsAreJudgedBeforeGoals
+listing_before_goal rows NotAlone later fails (grid, choice, shape, chosen, small, first) = alone rows choice chosen fails
+listing_before_goal rows TooManyCells later (whole, grid', shape', many) (grid, choice, shape, chosen, small, first) =
+    let same : grid ≡ grid' = one_shape rows grid' grid shape' shape in
+    let is : Whole ≡ choice = one_choice rows choice Whole chosen whole in
+    many (subst (λ (g : ShapeModel). MayBeListed g Whole) same (subst (MayBeListed grid) (sym is) small))
+
+pub three_choices : ChoicesAreThree
+three_choices spreads are = are
+
+-- ---- what words that are written out ask for
+
+-- where there is no fault no text is asked for
+no_text_asked : (request : Request) → AsksText [] request → ⊥
+no_text_asked (Solve o) asks = asks
+no_text_asked (Certify o) asks = asks
+no_text_asked Check asks = asks
+no_text_asked (Draw look) asks = asks
+no_text_asked Upgrade asks = asks
+no_text_asked (Replay o) asks = asks
+no_text_asked (Boards l) asks = asks
+no_text_asked (Help text) asks = asks
+no_text_asked (Version text) asks = asks
+
+-- but a run is
+only_run : (faults : Kinds) (subcommand : Option (Text × List Row)) (request : Request) → faults ≡ [] → AsksText faults request ⊎ ((faults ≡ []) × AsksRun subcommand request) → AsksRun subcommand request
+only_run faults subcommand request none (inr run) = run.1
+only_run faults subcommand request none (inl text) =
+    let asks : AsksText [] request = subst (λ (f : Kinds). AsksText f request) none text in
+    absurd (no_text_asked request asks)
+
+words_run : (word : Text) (words : List Text) (request : Request) → ((spreads : Choices) → fault_of (program_app spreads) (word ∷ words) ≡ []) → WordsAsk (word ∷ words) request → (spreads : Choices) × AsksRun (subcommand_of (program_app spreads) (word ∷ words)) request
+words_run word words request fine (program, (spreads, choices, is), asks) =
+    let run = only_run (fault_of program (word ∷ words)) (subcommand_of program (word ∷ words)) request (ap (λ (p : App). fault_of p (word ∷ words)) is ∙ fine spreads) asks in
+    (spreads, subst (λ (p : App). AsksRun (subcommand_of p (word ∷ words)) request) is run)
+
+abbrev next_letter : Option Text → ℕ
+next_letter None = 0
+next_letter (Some text) = get_or text 1 0
+
+of_check : (request : Request) → command_of request ≡ Some (codes "check") → request ≡ Check
+of_check (Solve o) is = let z = ap some_letter is in absurd (omega arith)
+of_check (Certify o) is = let z = ap some_letter is in absurd (omega arith)
+of_check Check is = refl
+of_check (Draw look) is = let z = ap some_letter is in absurd (omega arith)
+of_check Upgrade is = let z = ap some_letter is in absurd (omega arith)
+of_check (Replay o) is = let z = ap some_letter is in absurd (omega arith)
+of_check (Boards l) is = let z = ap some_letter is in absurd (omega arith)
+of_check (Help text) is = let z = ap some_letter is in absurd (omega arith)
+of_check (Version text) is = let z = ap some_letter is in absurd (omega arith)
+
+of_upgrade : (request : Request) → command_of request ≡ Some (codes "upgrade") → request ≡ Upgrade
+of_upgrade (Solve o) is = let z = ap some_letter is in absurd (omega arith)
+of_upgrade (Certify o) is = let z = ap some_letter is in absurd (omega arith)
+of_upgrade Check is = let z = ap some_letter is in absurd (omega arith)
+of_upgrade (Draw look) is = let z = ap some_letter is in absurd (omega arith)
+of_upgrade Upgrade is = refl
+of_upgrade (Replay o) is = let z = ap some_letter is in absurd (omega arith)
+of_upgrade (Boards l) is = let z = ap some_letter is in absurd (omega arith)
+of_upgrade (Help text) is = let z = ap some_letter is in absurd (omega arith)
+of_upgrade (Version text) is = let z = ap some_letter is in absurd (omega arith)
+
+-- a drawing is of the one style that the options say
+of_show : (rows : List Row) (look : Style) (request : Request) → IsStyle rows look → command_of request ≡ Some (codes "show") → AsksRun (Some (codes "show", rows)) request → request ≡ Draw look
+of_show rows look (Solve o) is name asks = let z = ap next_letter name in absurd (omega arith)
+of_show rows look (Certify o) is name asks = let z = ap next_letter name in absurd (omega arith)
+of_show rows look Check is name asks = let z = ap some_letter name in absurd (omega arith)
+of_show rows look (Draw look') is name asks = ap Draw (one_style rows look look' is asks.1)
+of_show rows look Upgrade is name asks = let z = ap some_letter name in absurd (omega arith)
+of_show rows look (Replay o) is name asks = let z = ap some_letter name in absurd (omega arith)
+of_show rows look (Boards l) is name asks = let z = ap some_letter name in absurd (omega arith)
+of_show rows look (Help text) is name asks = absurd asks
+of_show rows look (Version text) is name asks = absurd asks
+
+check_asked : (request : Request) → WordsAsk (codes "check" ∷ []) request → request ≡ Check
+unfolding clap_on_literals
+check_asked request asks =
+    let run = words_run (codes "check") [] request (λ spreads. refl) asks in
+    of_check request (one_command (codes "check") _ request run.1)
+
+upgrade_asked : (request : Request) → WordsAsk (codes "upgrade" ∷ []) request → request ≡ Upgrade
+unfolding clap_on_literals
+upgrade_asked request asks =
+    let run = words_run (codes "upgrade") [] request (λ spreads. refl) asks in
+    of_upgrade request (one_command (codes "upgrade") _ request run.1)
+
+show_asked : (request : Request) → WordsAsk (codes "show" ∷ codes "--svg" ∷ codes "--seconds" ∷ codes "2" ∷ []) request → request ≡ Draw (style.Svg 2)
+unfolding clap_on_literals
+show_asked request asks =
+    let run = words_run (codes "show") (codes "--svg" ∷ codes "--seconds" ∷ codes "2" ∷ []) request (λ spreads. refl) asks in
+    of_show _ (style.Svg 2) request (record { text = codes "2"; given = refl; value = refl }, refl) (one_command (codes "show") _ request run.1) run.1
+
+pub words_ask_one_thing : WordsAskOneThing
+words_ask_one_thing = record { check = check_asked; upgrade = upgrade_asked; drawing = show_asked }

@@ -1,5 +1,5 @@
 -- The laws of what options say. Each is the contract of a function that does nothing.
-use Rattle.std.specs.Prelude.{◌≡◌, ◌≢◌, ◌≤◌, ◌⊎◌, ◌↔◌, ⊤, List, Option, Some, IsTrue, String, false, codes}
+use Rattle.std.specs.Prelude.{◌≡◌, ◌≢◌, ◌≤◌, ◌⊎◌, ◌↔◌, ⊤, List, [], ◌∷◌, Option, None, Some, IsTrue, String, false, codes, map}
 use Rattle.std.specs.declared.alloc.Global.{Global}
 use Rattle.clap.specs.Words.{Text, Row, Kinds, IsAmong, first_of}
 use Rattle.clap.specs.declared.error.kind.ErrorKind.{ErrorKind}
@@ -16,10 +16,12 @@ use Rattle.option_texts.specs.declared.faults.GroupsFault.{GroupsFault}
 use Rattle.command_line.specs.declared.requests.Options.{Options}
 use Rattle.command_line.specs.declared.requests.Listing.{Listing}
 use Rattle.command_line.specs.declared.requests.Request.{Request}
-use Rattle.command_line.specs.declared.requests.Request.TheVariants.{Solve, Certify, Help, Version}
+use Rattle.command_line.specs.declared.requests.Request.TheVariants.{Solve, Certify, Check, Draw, Upgrade, Replay, Boards, Help, Version}
 use Rattle.command_line.specs.declared.faults.NoRequest.{NoRequest}
+use Rattle.command_line.specs.declared.faults.ListFault.{ListFault}
 use Rattle.command_line.specs.declared.faults.NoRequest.TheVariants.{Usage, Goal, Costs, Groups, NoListing, Memory}
-use Rattle.command_line.specs.Requests.{HasNumber, HasShape, IsGoalSaid, IsGoalFault, AreCostsSaid, IsCostsFault, IsSet, IsStyle, AreOptions, AreDefaults, OptionsFail, SaysListing, ListingFails, AsksRun, AsksText, TextFails, spread_text}
+use Rattle.command_line.specs.Requests.{HasNumber, HasShape, IsGoalSaid, IsGoalFault, AreCostsSaid, IsCostsFault, IsSet, IsStyle, AreOptions, AreDefaults, OptionsFail, SaysListing, ListingFails, AsksRun, RunFails, AsksText, TextFails, spread_text}
+use Rattle.command_line.specs.Commands.{Choices, AreChoices}
 
 -- the rows and columns say one shape
 abbrev pub ShapesAreDetermined : Type 0
@@ -118,3 +120,50 @@ UsageIsOfFaults =
     (faults : Kinds) (refusal : NoRequest)
     → TextFails faults refusal
     → (refusal ≡ Memory) ⊎ ((text : String Global) × (refusal ≡ Usage text) × ((kind : ErrorKind) × IsAmong kind faults × (kind ≢ DisplayHelp) × (kind ≢ DisplayVersion)))
+
+-- the subcommand that asks for a run; help and the version are no runs
+abbrev pub command_of : Request → Option Text
+command_of (Solve o) = Some (codes "solve")
+command_of (Certify o) = Some (codes "solve")
+command_of Check = Some (codes "check")
+command_of (Draw look) = Some (codes "show")
+command_of Upgrade = Some (codes "upgrade")
+command_of (Replay o) = Some (codes "replay")
+command_of (Boards l) = Some (codes "boards")
+command_of (Help text) = None
+command_of (Version text) = None
+
+-- each subcommand asks only for its own runs
+abbrev pub RequestsAreOfTheirCommands : Type 0
+RequestsAreOfTheirCommands = (name : Text) (rows : List Row) (request : Request) → AsksRun (Some (name, rows)) request → command_of request ≡ Some name
+
+-- a run has the options, the style or the boards that the options of its subcommand say
+abbrev pub RunsAreSaid : Type 0
+RunsAreSaid =
+    (name : Text) (rows : List Row) (o : Options) (look : Style) (l : Listing)
+    → (AsksRun (Some (name, rows)) (Solve o) → AreOptions rows o)
+    × (AsksRun (Some (name, rows)) (Certify o) → AreOptions rows o)
+    × (AsksRun (Some (name, rows)) (Replay o) → AreOptions rows o)
+    × (AsksRun (Some (name, rows)) (Draw look) → IsStyle rows look)
+    × (AsksRun (Some (name, rows)) (Boards l) → SaysListing rows l)
+
+-- `check` and `upgrade` are never refused, and `show` only for want of memory
+abbrev pub RunsWithoutBoardsAreAsked : Type 0
+RunsWithoutBoardsAreAsked =
+    (rows : List Row) (refusal : NoRequest)
+    → (¬ RunFails (Some (codes "check", rows)) refusal) × (¬ RunFails (Some (codes "upgrade", rows)) refusal) × (RunFails (Some (codes "show", rows)) refusal → refusal ≡ Memory)
+
+-- `boards` is refused only for the boards that its options say, and each other subcommand only for its options
+abbrev pub RefusalsAreOfOptions : Type 0
+RefusalsAreOfOptions =
+    (name : Text) (rows : List Row) (refusal : NoRequest)
+    → RunFails (Some (name, rows)) refusal
+    → (name ≡ codes "boards" → ListingFails rows refusal) × (name ≢ codes "boards" → OptionsFail rows refusal)
+
+-- which boards are listed is judged before the goal
+abbrev pub ListingsAreJudgedBeforeGoals : Type 0
+ListingsAreJudgedBeforeGoals = (rows : List Row) (fault : ListFault) (later : TilesFault) → ListingFails rows (NoListing fault) → ¬ ListingFails rows (Goal later)
+
+-- `--spread` may have these three values
+abbrev pub ChoicesAreThree : Type 0
+ChoicesAreThree = (spreads : Choices) → AreChoices spreads → map (λ t. t.now) spreads.now ≡ codes "zobrist" ∷ codes "blank" ∷ codes "abstract" ∷ []

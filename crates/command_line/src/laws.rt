@@ -10,6 +10,9 @@ ghost use Rattle.command_line.specs.Laws.{FlagsAreSaid, FlagsAreOff};
 ghost use Rattle.command_line.specs.Laws.{SearchesAreSaid, OptionsAreDetermined};
 ghost use Rattle.command_line.specs.Laws.{ListingsAreDetermined, StylesAreDetermined};
 ghost use Rattle.command_line.specs.Laws.{CertIsSaid, TextsAreOfFaults, UsageIsOfFaults};
+ghost use Rattle.command_line.specs.Laws.{RequestsAreOfTheirCommands, RunsAreSaid};
+ghost use Rattle.command_line.specs.Laws.{RunsWithoutBoardsAreAsked, RefusalsAreOfOptions};
+ghost use Rattle.command_line.specs.Laws.{ListingsAreJudgedBeforeGoals, ChoicesAreThree};
 
 /// One shape is said, one goal and one rule of costs; and where these are said, their texts have no
 /// fault. One style of drawing is said.
@@ -52,4 +55,17 @@ pub fn flags_are_said()
     ensures cert { CertIsSaid }
     ensures texts { TextsAreOfFaults }
     ensures usage { UsageIsOfFaults }
+{}
+
+/// Each subcommand asks only for its own runs, with what its options say. It is refused only for
+/// its options; `check` and `upgrade` never are. Which boards are listed is judged before the goal.
+/// Boards are spread in one of three ways.
+#[tactic(auto, using(crate::proofs::ParseLemmas::one_command, crate::proofs::ParseLemmas::run_said, crate::proofs::ParseLemmas::always_asked, crate::proofs::ParseLemmas::refusal_of_options, crate::proofs::ParseLemmas::listing_before_goal, crate::proofs::ParseLemmas::three_choices))]
+pub fn requests_are_of_their_commands()
+    ensures requests { RequestsAreOfTheirCommands }
+    ensures said { RunsAreSaid }
+    ensures always { RunsWithoutBoardsAreAsked }
+    ensures refusals { RefusalsAreOfOptions }
+    ensures listings { ListingsAreJudgedBeforeGoals }
+    ensures choices { ChoicesAreThree }
 {}

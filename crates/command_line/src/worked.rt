@@ -1,6 +1,8 @@
-//! Worked rows of the definitions: the faults that a parse of arguments by the program finds.
+//! Worked rows of the definitions: the faults that a parse of arguments by the program finds, and
+//! what arguments ask for.
 
 ghost use Rattle.command_line.specs.Worked.{NumbersAreWithin, OptionsStandOnce, TextsAreAskedFor};
+ghost use Rattle.command_line.specs.Worked.{WordsAskOneThing};
 
 /// A side of 6, 17 workers, 19 columns and x boards are no values of these options.
 #[tactic(auto, using(clap::proofs::OnLiterals::clap_on_literals), unfolding(clap::proofs::OnLiterals::clap_on_literals))]
@@ -19,4 +21,11 @@ pub fn options_stand_once()
 #[tactic(auto, using(clap::proofs::OnLiterals::clap_on_literals), unfolding(clap::proofs::OnLiterals::clap_on_literals))]
 pub fn texts_are_asked_for()
     ensures { TextsAreAskedFor }
+{}
+
+/// `check` asks only for a check, `upgrade` only for an upgrade, and `show` only for the drawing
+/// that its options say.
+#[tactic(auto, using(crate::proofs::ParseLemmas::words_ask_one_thing))]
+pub fn words_ask_one_thing()
+    ensures { WordsAskOneThing }
 {}
