@@ -433,6 +433,34 @@ three_choices spreads are = are
 
 -- ---- what words that are written out ask for
 
+-- the three values of `--spread`, wherever they are
+abbrev three_at : ℕ × ℕ → ℕ × ℕ → ℕ × ℕ → ℕ × ℕ → Choices
+three_at p x y z = record {
+  ref_ptr = p;
+  now = (record { ref_ptr = x; now = codes "zobrist" }) ∷ (record { ref_ptr = y; now = codes "blank" }) ∷ (record { ref_ptr = z; now = codes "abstract" }) ∷ [];
+}
+
+abbrev word_at : ℕ → List Text → Text
+word_at n words = get_or words n []
+
+on_list : (P : Choices → Type 0) → ((p x y z : ℕ × ℕ) → P (three_at p x y z)) → (p : ℕ × ℕ) (list : List (Bor Text)) → map (λ t. t.now) list ≡ codes "zobrist" ∷ codes "blank" ∷ codes "abstract" ∷ [] → P (record { ref_ptr = p; now = list })
+on_list P at p [] are = let z = ap (λ (l : List Text). length l) are in absurd (omega arith)
+on_list P at p (a ∷ []) are = let z = ap (λ (l : List Text). length l) are in absurd (omega arith)
+on_list P at p (a ∷ b ∷ []) are = let z = ap (λ (l : List Text). length l) are in absurd (omega arith)
+on_list P at p (a ∷ b ∷ c ∷ d ∷ rest) are = let z = ap (λ (l : List Text). length l) are in absurd (omega arith)
+on_list P at p (a ∷ b ∷ c ∷ []) are =
+    let first : a.now ≡ codes "zobrist" = ap (word_at 0) are in
+    let second : b.now ≡ codes "blank" = ap (word_at 1) are in
+    let third : c.now ≡ codes "abstract" = ap (word_at 2) are in
+    let same : three_at p a.ref_ptr b.ref_ptr c.ref_ptr ≡ record { ref_ptr = p; now = a ∷ b ∷ c ∷ [] } = λ i. record {
+      ref_ptr = p;
+      now = (record { ref_ptr = a.ref_ptr; now = sym first i }) ∷ (record { ref_ptr = b.ref_ptr; now = sym second i }) ∷ (record { ref_ptr = c.ref_ptr; now = sym third i }) ∷ [];
+    } in
+    subst P same (at p a.ref_ptr b.ref_ptr c.ref_ptr)
+
+on_choices : (P : Choices → Type 0) → ((p x y z : ℕ × ℕ) → P (three_at p x y z)) → (spreads : Choices) → AreChoices spreads → P spreads
+on_choices P at spreads are = on_list P at spreads.ref_ptr spreads.now are
+
 -- where there is no fault no text is asked for
 no_text_asked : (request : Request) → AsksText [] request → ⊥
 no_text_asked (Solve o) asks = asks
@@ -452,9 +480,9 @@ only_run faults subcommand request none (inl text) =
     let asks : AsksText [] request = subst (λ (f : Kinds). AsksText f request) none text in
     absurd (no_text_asked request asks)
 
-words_run : (word : Text) (words : List Text) (request : Request) → ((spreads : Choices) → fault_of (program_app spreads) (word ∷ words) ≡ []) → WordsAsk (word ∷ words) request → (spreads : Choices) × AsksRun (subcommand_of (program_app spreads) (word ∷ words)) request
+words_run : (word : Text) (words : List Text) (request : Request) → ((spreads : Choices) → AreChoices spreads → fault_of (program_app spreads) (word ∷ words) ≡ []) → WordsAsk (word ∷ words) request → (spreads : Choices) × AsksRun (subcommand_of (program_app spreads) (word ∷ words)) request
 words_run word words request fine (program, (spreads, choices, is), asks) =
-    let run = only_run (fault_of program (word ∷ words)) (subcommand_of program (word ∷ words)) request (ap (λ (p : App). fault_of p (word ∷ words)) is ∙ fine spreads) asks in
+    let run = only_run (fault_of program (word ∷ words)) (subcommand_of program (word ∷ words)) request (ap (λ (p : App). fault_of p (word ∷ words)) is ∙ fine spreads choices) asks in
     (spreads, subst (λ (p : App). AsksRun (subcommand_of p (word ∷ words)) request) is run)
 
 abbrev next_letter : Option Text → ℕ
@@ -483,6 +511,17 @@ of_upgrade (Boards l) is = let z = ap some_letter is in absurd (omega arith)
 of_upgrade (Help text) is = let z = ap some_letter is in absurd (omega arith)
 of_upgrade (Version text) is = let z = ap some_letter is in absurd (omega arith)
 
+of_replay : (request : Request) → command_of request ≡ Some (codes "replay") → (o : Options) × (request ≡ Replay o)
+of_replay (Solve o) is = let z = ap some_letter is in absurd (omega arith)
+of_replay (Certify o) is = let z = ap some_letter is in absurd (omega arith)
+of_replay Check is = let z = ap some_letter is in absurd (omega arith)
+of_replay (Draw look) is = let z = ap some_letter is in absurd (omega arith)
+of_replay Upgrade is = let z = ap some_letter is in absurd (omega arith)
+of_replay (Replay o) is = (o, refl)
+of_replay (Boards l) is = let z = ap some_letter is in absurd (omega arith)
+of_replay (Help text) is = let z = ap some_letter is in absurd (omega arith)
+of_replay (Version text) is = let z = ap some_letter is in absurd (omega arith)
+
 -- a drawing is of the one style that the options say
 of_show : (rows : List Row) (look : Style) (request : Request) → IsStyle rows look → command_of request ≡ Some (codes "show") → AsksRun (Some (codes "show", rows)) request → request ≡ Draw look
 of_show rows look (Solve o) is name asks = let z = ap next_letter name in absurd (omega arith)
@@ -498,20 +537,27 @@ of_show rows look (Version text) is name asks = absurd asks
 check_asked : (request : Request) → WordsAsk (codes "check" ∷ []) request → request ≡ Check
 unfolding clap_on_literals
 check_asked request asks =
-    let run = words_run (codes "check") [] request (λ spreads. refl) asks in
+    let run = words_run (codes "check") [] request (λ spreads choices. refl) asks in
     of_check request (one_command (codes "check") _ request run.1)
 
 upgrade_asked : (request : Request) → WordsAsk (codes "upgrade" ∷ []) request → request ≡ Upgrade
 unfolding clap_on_literals
 upgrade_asked request asks =
-    let run = words_run (codes "upgrade") [] request (λ spreads. refl) asks in
+    let run = words_run (codes "upgrade") [] request (λ spreads choices. refl) asks in
     of_upgrade request (one_command (codes "upgrade") _ request run.1)
 
 show_asked : (request : Request) → WordsAsk (codes "show" ∷ codes "--svg" ∷ codes "--seconds" ∷ codes "2" ∷ []) request → request ≡ Draw (style.Svg 2)
 unfolding clap_on_literals
 show_asked request asks =
-    let run = words_run (codes "show") (codes "--svg" ∷ codes "--seconds" ∷ codes "2" ∷ []) request (λ spreads. refl) asks in
+    let run = words_run (codes "show") (codes "--svg" ∷ codes "--seconds" ∷ codes "2" ∷ []) request (λ spreads choices. refl) asks in
     of_show _ (style.Svg 2) request (record { text = codes "2"; given = refl; value = refl }, refl) (one_command (codes "show") _ request run.1) run.1
 
+replay_asked : (request : Request) → WordsAsk (codes "replay" ∷ codes "--rows" ∷ codes "3" ∷ codes "--cols" ∷ codes "4" ∷ []) request → (o : Options) × (request ≡ Replay o)
+unfolding clap_on_literals
+replay_asked request asks =
+    let words : List Text = codes "--rows" ∷ codes "3" ∷ codes "--cols" ∷ codes "4" ∷ [] in
+    let run = words_run (codes "replay") words request (on_choices (λ spreads. fault_of (program_app spreads) (codes "replay" ∷ words) ≡ []) (λ p x y z. refl)) asks in
+    of_replay request (one_command (codes "replay") _ request run.1)
+
 pub words_ask_one_thing : WordsAskOneThing
-words_ask_one_thing = record { check = check_asked; upgrade = upgrade_asked; drawing = show_asked }
+words_ask_one_thing = record { check = check_asked; upgrade = upgrade_asked; drawing = show_asked; replay = replay_asked }

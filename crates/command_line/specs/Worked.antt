@@ -4,8 +4,9 @@ use Rattle.clap.specs.Words.{fault_of}
 use Rattle.clap.specs.declared.error.kind.ErrorKind.TheVariants.{ValueValidation, ArgumentConflict, UnknownArgument, DisplayHelp, DisplayVersion}
 use Rattle.command_line.specs.Commands.{Choices, program_app}
 use Rattle.command_line.specs.Requests.{WordsAsk}
+use Rattle.command_line.specs.declared.requests.Options.{Options}
 use Rattle.command_line.specs.declared.requests.Request.{Request}
-use Rattle.command_line.specs.declared.requests.Request.TheVariants.{Check, Draw, Upgrade}
+use Rattle.command_line.specs.declared.requests.Request.TheVariants.{Check, Draw, Upgrade, Replay}
 use Rattle.drawings.specs.declared.drawing.Style.TheVariants as style
 
 -- a side of 6, 17 workers, 19 columns and x boards are no values of these options
@@ -36,8 +37,10 @@ TextsAreAskedFor =
     × (fault_of (program_app spreads) (codes "show" ∷ codes "--svg" ∷ codes "--seconds" ∷ codes "2" ∷ []) ≡ [])
     × (fault_of (program_app spreads) (codes "boards" ∷ codes "--rows" ∷ codes "3" ∷ codes "--cols" ∷ codes "3" ∷ codes "--all" ∷ []) ≡ [])
 
--- `check` asks only for a check, `upgrade` only for an upgrade, and `show` with these options only for an SVG file of 2 seconds a move
+-- `check` asks only for a check, `upgrade` only for an upgrade, `show` with these options only for an SVG file of 2 seconds a move, and `replay`
+-- with the sides of its boards only for a replay
 pub record WordsAskOneThing : Type 0 where
   pub check : (request : Request) → WordsAsk (codes "check" ∷ []) request → request ≡ Check
   pub upgrade : (request : Request) → WordsAsk (codes "upgrade" ∷ []) request → request ≡ Upgrade
   pub drawing : (request : Request) → WordsAsk (codes "show" ∷ codes "--svg" ∷ codes "--seconds" ∷ codes "2" ∷ []) request → request ≡ Draw (style.Svg 2)
+  pub replay : (request : Request) → WordsAsk (codes "replay" ∷ codes "--rows" ∷ codes "3" ∷ codes "--cols" ∷ codes "4" ∷ []) request → (o : Options) × (request ≡ Replay o)

@@ -23,8 +23,8 @@ pub fn texts_are_asked_for()
     ensures { TextsAreAskedFor }
 {}
 
-/// `check` asks only for a check, `upgrade` only for an upgrade, and `show` only for the drawing
-/// that its options say.
+/// `check` asks only for a check, `upgrade` only for an upgrade, `show` only for the drawing that
+/// its options say, and `replay` only for a replay.
 #[tactic(auto, using(crate::proofs::ParseLemmas::words_ask_one_thing))]
 pub fn words_ask_one_thing()
     ensures { WordsAskOneThing }
