@@ -34,8 +34,8 @@ use Rattle.drawings.specs.declared.drawing.Style.{Style}
 use Rattle.drawings.specs.declared.drawing.Style.TheVariants as style
 use Rattle.command_line.specs.declared.faults.NoRequest.{NoRequest}
 use Rattle.board.specs.Shapes.{ShapeModel}
-use Rattle.board.specs.Boards.{BoardModel}
-use Rattle.board.specs.Weights.{WeightsModel}
+use Rattle.board.specs.Boards.{BoardModel, goal_of}
+use Rattle.board.specs.Weights.{WeightsModel, unit_rule}
 use Rattle.board.specs.declared.faults.TilesFault.{TilesFault}
 use Rattle.board.specs.declared.faults.WeightsFault.{WeightsFault}
 use Rattle.pattern_index.specs.Partitions.{PartitionModel, IsPartition}
@@ -48,7 +48,7 @@ use Rattle.option_texts.proofs.CostLemmas.{one_rule, no_costs_fault}
 use Rattle.option_texts.proofs.LawLemmas.{no_groups_fault}
 use Rattle.command_line.specs.declared.requests.Options.{Options}
 use Rattle.command_line.specs.Laws.{IsWant, SearchesAreSaid, OptionsAreDetermined, ListingsAreDetermined, StylesAreDetermined, CertIsSaid, TextsAreOfFaults, UsageIsOfFaults, command_of, RequestsAreOfTheirCommands, RunsAreSaid, RunsWithoutBoardsAreAsked, RefusalsAreOfOptions, ListingsAreJudgedBeforeGoals, ChoicesAreThree}
-use Rattle.command_line.specs.Worked.{WordsAskOneThing}
+use Rattle.command_line.specs.Worked.{IsPlainSearch, WordsAskOneThing}
 use Rattle.command_line.specs.Requests.{IsChoice, SaysListing, IsListFault, ListingFails}
 use Rattle.command_line.specs.declared.requests.Listing.{Listing}
 use Rattle.command_line.specs.declared.faults.ListFault.TheVariants.{NotAlone, TooManyCells}
@@ -559,5 +559,44 @@ replay_asked request asks =
     let run = words_run (codes "replay") words request (on_choices (λ spreads. fault_of (program_app spreads) (codes "replay" ∷ words) ≡ []) (λ p x y z. refl)) asks in
     of_replay request (one_command (codes "replay") _ request run.1)
 
+-- rows of these values say such a search
+abbrev twelve : ShapeModel
+twelve = record { rows = 3; cols = 4 }
+
+plain_search : (rows : List Row) (o : Options) → AreOptions rows o → HasShape rows twelve → (first_of (codes "goal") rows ≡ None) → (first_of (codes "cost") rows ≡ Some (codes "unit")) → HasNumber rows (codes "workers") 1 → (first_of (codes "spread") rows ≡ Some (codes "abstract")) → HasNumber rows (codes "limit") 18446744073709551615 → IsPlainSearch o
+plain_search rows o are shape no_goal unit workers spread limit =
+    let sides : o.goal.grid ≡ twelve = one_shape rows twelve o.goal.grid shape are.shape in
+    let goal : IsGoalSaid twelve None o.goal = subst (λ (t : Option Text). IsGoalSaid twelve t o.goal) no_goal (subst (λ (g : ShapeModel). IsGoalSaid g (first_of (codes "goal") rows) o.goal) sides are.goal) in
+    let costs : AreCostsSaid twelve (Some (codes "unit")) o.costs = subst (λ (t : Option Text). AreCostsSaid twelve t o.costs) unit (subst (λ (g : ShapeModel). AreCostsSaid g (first_of (codes "cost") rows) o.costs) sides are.costs) in
+    record {
+      goal = goal;
+      costs = one_rule twelve (codes "unit") (unit_rule twelve) o.costs (inl (refl, refl)) costs;
+      workers = one_number rows (codes "workers") 1 o.workers workers are.workers.count;
+      spread = one_spread Abstract o.spread (sym spread ∙ are.spread);
+      limit = one_number rows (codes "limit") 18446744073709551615 o.limit limit are.limit;
+    }
+
+of_solve : (rows : List Row) (request : Request) → (first_of (codes "cert") rows ≡ Some (codes "true") → ⊥) → command_of request ≡ Some (codes "solve") → AsksRun (Some (codes "solve", rows)) request → (o : Options) × (request ≡ Solve o) × AreOptions rows o
+of_solve rows (Solve o) out name asks = (o, refl, asks.1)
+of_solve rows (Certify o) out name asks = absurd (out asks.2)
+of_solve rows Check out name asks = let z = ap some_letter name in absurd (omega arith)
+of_solve rows (Draw look) out name asks = let z = ap next_letter name in absurd (omega arith)
+of_solve rows Upgrade out name asks = let z = ap some_letter name in absurd (omega arith)
+of_solve rows (Replay o) out name asks = let z = ap some_letter name in absurd (omega arith)
+of_solve rows (Boards l) out name asks = let z = ap some_letter name in absurd (omega arith)
+of_solve rows (Help text) out name asks = absurd asks
+of_solve rows (Version text) out name asks = absurd asks
+
+not_true : ◌≡◌ {A = Option Text} (Some (codes "false")) (Some (codes "true")) → ⊥
+not_true same = let z = ap some_letter same in absurd (omega arith)
+
+solve_asked : (request : Request) → WordsAsk (codes "solve" ∷ codes "--rows" ∷ codes "3" ∷ codes "--cols" ∷ codes "4" ∷ codes "--spread" ∷ codes "abstract" ∷ []) request → (o : Options) × (request ≡ Solve o) × IsPlainSearch o
+unfolding clap_on_literals
+solve_asked request asks =
+    let words : List Text = codes "--rows" ∷ codes "3" ∷ codes "--cols" ∷ codes "4" ∷ codes "--spread" ∷ codes "abstract" ∷ [] in
+    let run = words_run (codes "solve") words request (on_choices (λ spreads. fault_of (program_app spreads) (codes "solve" ∷ words) ≡ []) (λ p x y z. refl)) asks in
+    let is = of_solve _ request not_true (one_command (codes "solve") _ request run.1) run.1 in
+    (is.0, is.1, plain_search _ is.0 is.2 (record { tall = record { text = codes "3"; given = refl; value = refl }; wide = record { text = codes "4"; given = refl; value = refl } }) refl refl (record { text = codes "1"; given = refl; value = refl }) refl (record { text = codes "18446744073709551615"; given = refl; value = refl }))
+
 pub words_ask_one_thing : WordsAskOneThing
-words_ask_one_thing = record { check = check_asked; upgrade = upgrade_asked; drawing = show_asked; replay = replay_asked }
+words_ask_one_thing = record { check = check_asked; upgrade = upgrade_asked; drawing = show_asked; replay = replay_asked; solve = solve_asked }

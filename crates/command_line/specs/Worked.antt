@@ -1,12 +1,15 @@
 -- Worked rows: the faults that a parse of arguments by the program finds, and what arguments ask for. Each is the contract of a function that does nothing.
-use Rattle.std.specs.Prelude.{◌≡◌, [], ◌∷◌, codes}
+use Rattle.std.specs.Prelude.{◌≡◌, ◌-◌, ◌^◌, [], ◌∷◌, codes}
 use Rattle.clap.specs.Words.{fault_of}
 use Rattle.clap.specs.declared.error.kind.ErrorKind.TheVariants.{ValueValidation, ArgumentConflict, UnknownArgument, DisplayHelp, DisplayVersion}
 use Rattle.command_line.specs.Commands.{Choices, program_app}
 use Rattle.command_line.specs.Requests.{WordsAsk}
 use Rattle.command_line.specs.declared.requests.Options.{Options}
 use Rattle.command_line.specs.declared.requests.Request.{Request}
-use Rattle.command_line.specs.declared.requests.Request.TheVariants.{Check, Draw, Upgrade, Replay}
+use Rattle.command_line.specs.declared.requests.Request.TheVariants.{Solve, Check, Draw, Upgrade, Replay}
+use Rattle.board.specs.Boards.{goal_of}
+use Rattle.board.specs.Weights.{unit_rule}
+use Rattle.batch_runs.specs.declared.setup.SpreadKind.TheVariants.{Abstract}
 use Rattle.drawings.specs.declared.drawing.Style.TheVariants as style
 
 -- a side of 6, 17 workers, 19 columns and x boards are no values of these options
@@ -37,10 +40,19 @@ TextsAreAskedFor =
     × (fault_of (program_app spreads) (codes "show" ∷ codes "--svg" ∷ codes "--seconds" ∷ codes "2" ∷ []) ≡ [])
     × (fault_of (program_app spreads) (codes "boards" ∷ codes "--rows" ∷ codes "3" ∷ codes "--cols" ∷ codes "3" ∷ codes "--all" ∷ []) ≡ [])
 
--- `check` asks only for a check, `upgrade` only for an upgrade, `show` with these options only for an SVG file of 2 seconds a move, and `replay`
--- with the sides of its boards only for a replay
+-- the goal of 3 by 4 at unit cost, searched without a limit by one worker, with boards spread by their abstract hashes
+pub record IsPlainSearch (o : Options) : Type 0 where
+  pub goal : o.goal ≡ goal_of (record { rows = 3; cols = 4 })
+  pub costs : o.costs ≡ unit_rule (record { rows = 3; cols = 4 })
+  pub workers : o.workers ≡ 1
+  pub spread : o.spread ≡ Abstract
+  pub limit : o.limit ≡ 2 ^ 64 - 1
+
+-- `check` asks only for a check, `upgrade` only for an upgrade, `show` with these options only for an SVG file of 2 seconds a move, `replay`
+-- with the sides of its boards only for a replay, and `solve` with these options only for such a search, without a certificate
 pub record WordsAskOneThing : Type 0 where
   pub check : (request : Request) → WordsAsk (codes "check" ∷ []) request → request ≡ Check
   pub upgrade : (request : Request) → WordsAsk (codes "upgrade" ∷ []) request → request ≡ Upgrade
   pub drawing : (request : Request) → WordsAsk (codes "show" ∷ codes "--svg" ∷ codes "--seconds" ∷ codes "2" ∷ []) request → request ≡ Draw (style.Svg 2)
   pub replay : (request : Request) → WordsAsk (codes "replay" ∷ codes "--rows" ∷ codes "3" ∷ codes "--cols" ∷ codes "4" ∷ []) request → (o : Options) × (request ≡ Replay o)
+  pub solve : (request : Request) → WordsAsk (codes "solve" ∷ codes "--rows" ∷ codes "3" ∷ codes "--cols" ∷ codes "4" ∷ codes "--spread" ∷ codes "abstract" ∷ []) request → (o : Options) × (request ≡ Solve o) × IsPlainSearch o

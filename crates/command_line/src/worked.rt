@@ -24,7 +24,8 @@ pub fn texts_are_asked_for()
 {}
 
 /// `check` asks only for a check, `upgrade` only for an upgrade, `show` only for the drawing that
-/// its options say, and `replay` only for a replay.
+/// its options say, `replay` only for a replay, and `solve` only for the search that its options
+/// say.
 #[tactic(auto, using(crate::proofs::ParseLemmas::words_ask_one_thing))]
 pub fn words_ask_one_thing()
     ensures { WordsAskOneThing }
