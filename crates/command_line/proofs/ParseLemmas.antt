@@ -48,7 +48,7 @@ use Rattle.option_texts.proofs.CostLemmas.{one_rule, no_costs_fault}
 use Rattle.option_texts.proofs.LawLemmas.{no_groups_fault}
 use Rattle.command_line.specs.declared.requests.Options.{Options}
 use Rattle.command_line.specs.Laws.{IsWant, SearchesAreSaid, OptionsAreDetermined, ListingsAreDetermined, StylesAreDetermined, CertIsSaid, TextsAreOfFaults, UsageIsOfFaults, command_of, RequestsAreOfTheirCommands, RunsAreSaid, RunsWithoutBoardsAreAsked, RefusalsAreOfOptions, ListingsAreJudgedBeforeGoals, ChoicesAreThree}
-use Rattle.command_line.specs.Worked.{IsPlainSearch, WordsAskOneThing}
+use Rattle.command_line.specs.Worked.{IsPlainSearch, WordsAskOneThing, WordsAreNotRefused}
 use Rattle.command_line.specs.Requests.{IsChoice, SaysListing, IsListFault, ListingFails}
 use Rattle.command_line.specs.declared.requests.Listing.{Listing}
 use Rattle.command_line.specs.declared.faults.ListFault.TheVariants.{NotAlone, TooManyCells}
@@ -600,3 +600,23 @@ solve_asked request asks =
 
 pub words_ask_one_thing : WordsAskOneThing
 words_ask_one_thing = record { check = check_asked; upgrade = upgrade_asked; drawing = show_asked; replay = replay_asked; solve = solve_asked }
+
+-- where there is no fault only memory is refused
+only_memory : (refusal : NoRequest) → TextFails [] refusal → refusal ≡ Memory
+only_memory (Usage text) (kind, among, help, version) = absurd among
+only_memory (Goal fault) fails = absurd fails
+only_memory (Costs fault) fails = absurd fails
+only_memory (Groups fault) fails = absurd fails
+only_memory (NoListing fault) fails = absurd fails
+only_memory Memory fails = refl
+
+check_refused : (refusal : NoRequest) → WordsFail (codes "check" ∷ []) refusal → refusal ≡ Memory
+unfolding clap_on_literals
+check_refused refusal (program, (spreads, choices, is), inl text) =
+    only_memory refusal (subst (λ (p : App). TextFails (fault_of p (codes "check" ∷ [])) refusal) is text)
+check_refused refusal (program, (spreads, choices, is), inr fails) =
+    let run = subst (λ (p : App). RunFails (subcommand_of p (codes "check" ∷ [])) refusal) is fails.1 in
+    absurd (run.0 refl)
+
+pub words_are_not_refused : WordsAreNotRefused
+words_are_not_refused = record { check = check_refused }

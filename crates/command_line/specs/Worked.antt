@@ -3,7 +3,9 @@ use Rattle.std.specs.Prelude.{◌≡◌, ◌-◌, ◌^◌, [], ◌∷◌, codes}
 use Rattle.clap.specs.Words.{fault_of}
 use Rattle.clap.specs.declared.error.kind.ErrorKind.TheVariants.{ValueValidation, ArgumentConflict, UnknownArgument, DisplayHelp, DisplayVersion}
 use Rattle.command_line.specs.Commands.{Choices, program_app}
-use Rattle.command_line.specs.Requests.{WordsAsk}
+use Rattle.command_line.specs.Requests.{WordsAsk, WordsFail}
+use Rattle.command_line.specs.declared.faults.NoRequest.{NoRequest}
+use Rattle.command_line.specs.declared.faults.NoRequest.TheVariants.{Memory}
 use Rattle.command_line.specs.declared.requests.Options.{Options}
 use Rattle.command_line.specs.declared.requests.Request.{Request}
 use Rattle.command_line.specs.declared.requests.Request.TheVariants.{Solve, Check, Draw, Upgrade, Replay}
@@ -56,3 +58,7 @@ pub record WordsAskOneThing : Type 0 where
   pub drawing : (request : Request) → WordsAsk (codes "show" ∷ codes "--svg" ∷ codes "--seconds" ∷ codes "2" ∷ []) request → request ≡ Draw (style.Svg 2)
   pub replay : (request : Request) → WordsAsk (codes "replay" ∷ codes "--rows" ∷ codes "3" ∷ codes "--cols" ∷ codes "4" ∷ []) request → (o : Options) × (request ≡ Replay o)
   pub solve : (request : Request) → WordsAsk (codes "solve" ∷ codes "--rows" ∷ codes "3" ∷ codes "--cols" ∷ codes "4" ∷ codes "--spread" ∷ codes "abstract" ∷ []) request → (o : Options) × (request ≡ Solve o) × IsPlainSearch o
+
+-- `check` is refused only for want of memory
+pub record WordsAreNotRefused : Type 0 where
+  pub check : (refusal : NoRequest) → WordsFail (codes "check" ∷ []) refusal → refusal ≡ Memory

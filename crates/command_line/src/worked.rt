@@ -2,7 +2,7 @@
 //! what arguments ask for.
 
 ghost use Rattle.command_line.specs.Worked.{NumbersAreWithin, OptionsStandOnce, TextsAreAskedFor};
-ghost use Rattle.command_line.specs.Worked.{WordsAskOneThing};
+ghost use Rattle.command_line.specs.Worked.{WordsAskOneThing, WordsAreNotRefused};
 
 /// A side of 6, 17 workers, 19 columns and x boards are no values of these options.
 #[tactic(auto, using(clap::proofs::OnLiterals::clap_on_literals), unfolding(clap::proofs::OnLiterals::clap_on_literals))]
@@ -29,4 +29,10 @@ pub fn texts_are_asked_for()
 #[tactic(auto, using(crate::proofs::ParseLemmas::words_ask_one_thing))]
 pub fn words_ask_one_thing()
     ensures { WordsAskOneThing }
+{}
+
+/// `check` is refused only for want of memory.
+#[tactic(auto, using(crate::proofs::ParseLemmas::words_are_not_refused))]
+pub fn words_are_not_refused()
+    ensures { WordsAreNotRefused }
 {}
