@@ -31,7 +31,23 @@ use Rattle.reports.specs.Reports.{outcome_data, refused_data, report_text}
 use Rattle.world_model.specs.Laws.{RunsAnswer}
 use Rattle.batch_runs.specs.Meanings.{Names}
 use Rattle.batch_runs.specs.declared.faults.LinesFault.{LinesFault}
-use Rattle.replay_runs.specs.Replays.{Jobs, IsReadLine, OpensRun, IsLineRefusedBy, IsPlay, IsEnd, Replays, ReportsRefusal}
+use Rattle.replay_runs.specs.Replays.{Jobs, IsReadLine, OpensRun, IsLineRefusedBy, RefusesFirst, IsPlay, IsEnd, WritesNothing, WritesRefusal, WritesPlay, Replays, ReportsRefusal}
+use Rattle.replay_runs.specs.Replays.{AsksFirst, PlaysNamedBoards, RefusesFirstLines, AnswersBoard, LacksBoard, LeavesAnswers, ReplayOutputsAreAnswers}
+use Rattle.std.specs.Prelude.{drop, slice_get, not, ◌⊎◌}
+use Rattle.std.specs.Io.KnownBytes.{Appends}
+use Rattle.std.proofs.Math.Seq.{drop-append-add}
+use Rattle.std.proofs.lemmas.List.Elements.{All-head, All-tail}
+use Rattle.board.specs.Shapes.{ShapeModel}
+use Rattle.board.specs.declared.moves.Move.{Move}
+use Rattle.batch_lines.specs.Lines.{lines_of, line_kind_of}
+use Rattle.outcomes.specs.Outcomes.{Task, Answers}
+use Rattle.outcomes.specs.Endings.{EndAnswers}
+use Rattle.outcomes.specs.declared.outcome.Outcome.TheVariants as out
+use Rattle.world_model.specs.Openings.{opening}
+use Rattle.batch_runs.specs.Batches.{AreAll, AreFirst}
+use Rattle.batch_runs.specs.Meanings.{HasFault, questions, IsQuestion}
+use Rattle.batch_runs.proofs.TruthLemmas.{same_name, no_fault}
+use Rattle.batch_runs.proofs.BatchLemmas.{AreFirst-read}
 
 -- ---- one reply more
 
@@ -279,3 +295,205 @@ reply_taken bytes found read step no_step says replies = absurd (replies step sa
 reply_taken bytes found read step (taken other refusal) says replies =
     let same : ◌≡◌ {A = Option Step} (Some other) (Some step) = sym ((read other).1 replies) ∙ (read step).1 says in
     (refusal, ap (λ (s : Step). taken s refusal) (ap (λ (o : Option Step). unwrap_or o other) same))
+
+-- ---- what the definitions say of the first line that asks
+
+over_not : (over long : Bool) → ¬ ((if over then PassedOver else if long then TooLong else Within) ≡ PassedOver) → over ≡ false
+over_not true long here = absurd (here refl)
+over_not false long here = refl
+
+over_is : (over long : Bool) → (if over then PassedOver else if long then TooLong else Within) ≡ PassedOver → over ≡ true
+over_is true long is = refl
+over_is false true is = absurd (cc)
+over_is false false is = absurd (cc)
+
+-- a line of a board isn't passed over
+named_here : (grid : ShapeModel) (line id : List ℕ) (board : BoardModel) → Names grid line id board → ¬ IsPassedOver line
+named_here grid line id board names over = let both : PassedOver ≡ Within = sym over ∙ names.0 in absurd (cc)
+
+-- the questions, by whether the first line is passed over
+abbrev asked_by : ℕ → List ℕ → List (List ℕ) → Bool → List (ℕ × List ℕ)
+asked_by n line lines over = if over then questions (n + 1) lines else (n, line) ∷ questions (n + 1) lines
+
+by_over : (n : ℕ) (line : List ℕ) (lines : List (List ℕ)) → questions n (line ∷ lines) ≡ asked_by n line lines (is_passed_over (without_return line))
+by_over n line lines = of (is_passed_over (without_return line))
+  where
+    of : (over : Bool) → (if not over then (n, line) ∷ questions (n + 1) lines else questions (n + 1) lines) ≡ asked_by n line lines over
+    of true = refl
+    of false = refl
+
+-- behind lines that are passed over, the next one is the first question
+first_question : (n : ℕ) (passed later : List (List ℕ)) (line : List ℕ) → All IsPassedOver passed → ¬ IsPassedOver line → (first : ℕ) × (rest : List (ℕ × List ℕ)) × (questions n (passed ++ line ∷ later) ≡ (first, line) ∷ rest) × (first ≡ length passed + n)
+first_question n [] later line over here =
+    let asks_it = over_not (is_passed_over (without_return line)) (nat_lt 1024 (length (without_return line))) here in
+    (n, questions (n + 1) later, by_over n line later ∙ ap (asked_by n line later) asks_it, omega arith)
+first_question n (next ∷ passed) later line over here =
+    let tail = first_question (n + 1) passed later line (All-tail IsPassedOver next passed over) here in
+    let skips = over_is (is_passed_over (without_return next)) (nat_lt 1024 (length (without_return next))) (All-head IsPassedOver next passed over) in
+    (tail.0, tail.1, by_over n next (passed ++ line ∷ later) ∙ ap (asked_by n next (passed ++ line ∷ later)) skips ∙ tail.2, omega (arith, tail.3))
+
+-- lines that are passed over have no question
+no_questions : (n : ℕ) (lines : List (List ℕ)) → All IsPassedOver lines → questions n lines ≡ []
+no_questions n [] over = refl
+no_questions n (next ∷ lines) over =
+    let skips = over_is (is_passed_over (without_return next)) (nat_lt 1024 (length (without_return next))) (All-head IsPassedOver next lines over) in
+    by_over n next lines ∙ ap (asked_by n next lines) skips ∙ no_questions (n + 1) lines (All-tail IsPassedOver next lines over)
+
+abbrev asked_or : ℕ × List ℕ → Option (ℕ × List ℕ) → ℕ × List ℕ
+asked_or other None = other
+asked_or other (Some asked) = asked
+
+-- the number and the line of the first question, and the lines behind it
+first_is : (lines passed later : List (List ℕ)) (line asked : List ℕ) (n : ℕ) → lines ≡ passed ++ line ∷ later → All IsPassedOver passed → ¬ IsPassedOver line → IsQuestion lines 0 n asked → (n ≡ length passed + 1) × (asked ≡ line) × (drop n lines ≡ later)
+first_is lines passed later line asked n parts over here question =
+    let found = first_question 1 passed later line over here in
+    let same : Some (found.0, line) ≡ Some (n, asked) = sym (ap (λ (qs : List (ℕ × List ℕ)). slice_get qs 0) (ap (questions 1) parts ∙ found.2)) ∙ question in
+    let number : n ≡ length passed + 1 = sym (ap (λ (o : Option (ℕ × List ℕ)). (asked_or (n, asked) o).0) same) ∙ found.3 in
+    (number, sym (ap (λ (o : Option (ℕ × List ℕ)). (asked_or (n, asked) o).1) same), ap (λ (k : ℕ). drop k lines) number ∙ ap (λ (ls : List (List ℕ)). drop (length passed + 1) ls) parts ∙ drop-append-add passed (line ∷ later) 1)
+
+-- the board that is played, and its id, are those that the first question names
+played_is : (jobs : Jobs) (lines : List (List ℕ)) (n : ℕ) (name id : List ℕ) (board : BoardModel) (replies : List Reply) (w : WorldState) → AsksFirst jobs lines n name board → (play : IsPlay jobs lines id replies w) → (id ≡ name) × (play.board ≡ board) × (drop n lines ≡ play.later)
+played_is jobs lines n name id board replies w (asked, question, names) play =
+    let first = first_is lines play.passed play.later play.line asked n play.parts play.before (named_here jobs.grid play.line id play.board play.named) question in
+    let same = same_name jobs.grid play.line name id board play.board (subst (λ (line : List ℕ). Names jobs.grid line name board) first.1 names) play.named in
+    (same.0, same.1, first.2)
+
+named_played : (jobs : Jobs) (lines : List (List ℕ)) (n : ℕ) (name id : List ℕ) (board : BoardModel) (replies : List Reply) (w : WorldState) → AsksFirst jobs lines n name board → IsPlay jobs lines id replies w → (id ≡ name) × ((via : Move) × IsReplied (from_to (opening (jobs.job board) via) w) (drop n lines) replies)
+named_played jobs lines n name id board replies w asks_it play =
+    let is = played_is jobs lines n name id board replies w asks_it play in
+    let behind : IsReplied (from_to (opening (jobs.job play.board) play.via) w) (drop n lines) replies = subst (λ (later : List (List ℕ)). IsReplied (from_to (opening (jobs.job play.board) play.via) w) later replies) (sym is.2) play.replied in
+    (is.0, (play.via, subst (λ (b : BoardModel). IsReplied (from_to (opening (jobs.job b) play.via) w) (drop n lines) replies) is.1 behind))
+
+rows_left : (task : Task) (outcome : Outcome) → Answers task outcome → EndAnswers task (without_rows outcome)
+rows_left task (out.Optimal cost plan rows) (leads, least, are, low, few) = (leads, least, (rows.items, are), low, few)
+rows_left task (out.Unsolvable why) answers = answers
+rows_left task (out.Bounded bound best cause (Some rows)) (is, are) = (is, (rows.items, are))
+rows_left task (out.Bounded bound best cause None) (is, alone, proof) = (is, proof)
+
+named_answered : (jobs : Jobs) (lines : List (List ℕ)) (n : ℕ) (name id : List ℕ) (board : BoardModel) (replies : List Reply) (outcome : Outcome) → AsksFirst jobs lines n name board → IsEnd jobs lines id replies outcome → Answers (jobs.job board).task outcome × EndAnswers (jobs.job board).task (without_rows outcome) × ((w : WorldState) × IsPlay jobs lines name replies w × IsReportOf w outcome)
+named_answered jobs lines n name id board replies outcome asks_it end =
+    let is = played_is jobs lines n name id board replies end.world asks_it end.play in
+    let answers : Answers (jobs.job board).task outcome = subst (λ (b : BoardModel). Answers (jobs.job b).task outcome) is.1 end.answers in
+    (answers, rows_left (jobs.job board).task outcome answers, (end.world, subst (λ (i : List ℕ). IsPlay jobs lines i replies end.world) is.0 end.play, end.given))
+
+pub plays_named : (jobs : Jobs) → PlaysNamedBoards jobs
+plays_named jobs = record { played = named_played jobs; answered = named_answered jobs }
+
+-- the lines of a known input, where the first that isn't passed over was found
+found_in : (source : Change SourceState) (input : List ℕ) (passed : List (List ℕ)) (line : List ℕ) → source.before.left ≡ Some input → FindsFirst source passed line → (later : List (List ℕ)) × (lines_of input ≡ passed ++ line ∷ later)
+found_in source input passed line known found =
+    let first : (more : List (List ℕ)) × (lines_of input ≡ (passed ++ line ∷ []) ++ more) = subst (λ (left : Option (List ℕ)). AreFirst left (passed ++ line ∷ [])) known (AreFirst-read source.before.left source.after.left (passed ++ line ∷ []) found.read) in
+    (first.0, first.1 ∙ append_assoc passed (line ∷ []) first.0)
+
+-- the refused line is the first question
+refused_is : (jobs : Jobs) (source : Change SourceState) (input output : List ℕ) (n : ℕ) (line : List ℕ) → source.before.left ≡ Some input → IsQuestion (lines_of input) 0 n line → RefusesFirst jobs source output → (code : List ℕ) × IsLineRefusedBy jobs line code × (output ≡ report_text (refused_data code n))
+refused_is jobs source input output n line known question refuses =
+    let found = found_in source input refuses.passed refuses.line known refuses.first in
+    let first = first_is (lines_of input) refuses.passed found.0 refuses.line line n found.1 refuses.first.before refuses.first.here question in
+    (refuses.code, subst (λ (l : List ℕ). IsLineRefusedBy jobs l refuses.code) (sym first.1) refuses.cause, refuses.text ∙ ap (λ (k : ℕ). report_text (refused_data refuses.code k)) (sym first.0))
+
+want_of : (jobs : Jobs) (line id code : List ℕ) (board : BoardModel) → Names jobs.grid line id board → IsLineRefusedBy jobs line code → jobs.lacks board × (code ≡ codes "V3")
+want_of jobs line id code board names (inl fault) = absurd (no_fault jobs.grid line id code board names fault)
+want_of jobs line id code board names (inr (other, b, named, lacks, is)) = (subst jobs.lacks (same_name jobs.grid line id other board b names named).1 lacks, is)
+
+refused_by_want : (jobs : Jobs) (source : Change SourceState) (input output : List ℕ) (n : ℕ) (id : List ℕ) (board : BoardModel) → source.before.left ≡ Some input → AsksFirst jobs (lines_of input) n id board → RefusesFirst jobs source output → jobs.lacks board × (output ≡ report_text (refused_data (codes "V3") n))
+refused_by_want jobs source input output n id board known (line, question, names) refuses =
+    let is = refused_is jobs source input output n line known question refuses in
+    let want = want_of jobs line id is.0 board names is.1 in
+    (want.0, is.2 ∙ ap (λ (code : List ℕ). report_text (refused_data code n)) want.1)
+
+fault_of : (jobs : Jobs) (line code : List ℕ) → ((id : List ℕ) (board : BoardModel) → ¬ Names jobs.grid line id board) → IsLineRefusedBy jobs line code → HasFault jobs.grid line code
+fault_of jobs line code none (inl fault) = fault
+fault_of jobs line code none (inr (id, board, named, lacks, is)) = absurd (none id board named)
+
+refused_by_fault : (jobs : Jobs) (source : Change SourceState) (input output : List ℕ) (n : ℕ) (line : List ℕ) → source.before.left ≡ Some input → IsQuestion (lines_of input) 0 n line → ((id : List ℕ) (board : BoardModel) → ¬ Names jobs.grid line id board) → RefusesFirst jobs source output → (code : List ℕ) × HasFault jobs.grid line code × (output ≡ report_text (refused_data code n))
+refused_by_fault jobs source input output n line known question none refuses =
+    let is = refused_is jobs source input output n line known question refuses in
+    (is.0, fault_of jobs line is.0 none is.1, is.2)
+
+pub refuses_first : (jobs : Jobs) → RefusesFirstLines jobs
+refuses_first jobs = record { named = refused_by_want jobs; unnamed = refused_by_fault jobs }
+
+-- ---- what they say of outputs
+
+-- what was put into an empty sink is what it holds
+held : (before after : Option (List ℕ)) (bytes : List ℕ) → before ≡ Some [] → Appends before after bytes → after ≡ Some bytes
+held before after bytes empty put = of_after after (subst (λ (contents : Option (List ℕ)). Appends contents after bytes) empty put)
+  where
+    of_after : (after : Option (List ℕ)) → Appends (Some []) after bytes → after ≡ Some bytes
+    of_after None none = absurd none
+    of_after (Some now) is = ap (λ (l : List ℕ). Some l) is
+
+no_first : (asked : ℕ × List ℕ) → None ≢ Some asked
+no_first asked is = absurd (cc)
+
+none_asked : (lines : List (List ℕ)) (n : ℕ) (line : List ℕ) → questions 1 lines ≡ [] → ¬ IsQuestion lines 0 n line
+none_asked lines n line none question = no_first (n, line) (sym (ap (λ (qs : List (ℕ × List ℕ)). slice_get qs 0) none) ∙ question)
+
+asked_none : (asked : ℕ × List ℕ) (rest : List (ℕ × List ℕ)) → asked ∷ rest ≢ []
+asked_none asked rest is = absurd (cc)
+
+-- where a line isn't passed over, some line asks
+some_asked : (lines passed later : List (List ℕ)) (line : List ℕ) → lines ≡ passed ++ line ∷ later → All IsPassedOver passed → ¬ IsPassedOver line → questions 1 lines ≢ []
+some_asked lines passed later line parts over here none =
+    let found = first_question 1 passed later line over here in
+    asked_none (found.0, line) found.1 (sym (ap (questions 1) parts ∙ found.2) ∙ none)
+
+module _ (jobs : Jobs) (source : Change SourceState) (sink : Change SinkState) (status : ℕ) (input : List ℕ) (known : source.before.left ≡ Some input) (empty : sink.before.contents ≡ Some []) where
+  abbrev Leaves : Type 0
+  Leaves = (output : List ℕ) × LeavesAnswers jobs source sink status input output
+
+  all_are : (lines : List (List ℕ)) → AreAll source.before.left lines → lines_of input ≡ lines
+  all_are lines all = subst (λ (left : Option (List ℕ)). AreAll left lines) known all
+
+  leaves_nothing : WritesNothing source sink status → Leaves
+  leaves_nothing (lines, all, over, put, is) =
+      let none : questions 1 (lines_of input) ≡ [] = ap (questions 1) (all_are lines all) ∙ no_questions 1 lines over in (
+        [],
+        record {
+          left = held sink.before.contents sink.after.contents [] empty put;
+          named = λ n id board asks_it. absurd (none_asked (lines_of input) n asks_it.0 none asks_it.1);
+          unnamed = λ n line question names. absurd (none_asked (lines_of input) n line none question);
+          silent = λ asked. (refl, is);
+        },
+      )
+
+  leaves_refusal : WritesRefusal jobs source sink status → Leaves
+  leaves_refusal (output, refuses, put, is) =
+      let found = found_in source input refuses.passed refuses.line known refuses.first in (
+        output,
+        record {
+          left = held sink.before.contents sink.after.contents output empty put;
+          named = λ n id board asks_it. let want = refused_by_want jobs source input output n id board known asks_it refuses in inr (want.0, want.1, is);
+          unnamed = λ n line question names. let fault = refused_by_fault jobs source input output n line known question names refuses in (fault.0, fault.1, fault.2, is);
+          silent = λ none. absurd (some_asked (lines_of input) refuses.passed found.0 refuses.line found.1 refuses.first.before refuses.first.here none);
+        },
+      )
+
+  leaves_play : WritesPlay jobs source sink status → Leaves
+  leaves_play (lines, name, replies, outcome, all, end, put, is) =
+      let ended : IsEnd jobs (lines_of input) name replies outcome = subst (λ (ls : List (List ℕ)). IsEnd jobs ls name replies outcome) (sym (all_are lines all)) end in
+      let play = ended.play in
+      let here = named_here jobs.grid play.line name play.board play.named in
+      let text : List ℕ = replies_text replies ++ report_text (outcome_data name (without_rows outcome)) in (
+        text,
+        record {
+          left = held sink.before.contents sink.after.contents text empty put;
+          named = λ n id board asks_it.
+              let played = named_played jobs (lines_of input) n id name board replies ended.world asks_it play in
+              let answered = named_answered jobs (lines_of input) n id name board replies outcome asks_it ended in
+              inl (record { replies = replies; via = played.1.0; end = ended.world; outcome = outcome; replied = played.1.1; given = ended.given; answers = answered.1; text = ap (λ (i : List ℕ). replies_text replies ++ report_text (outcome_data i (without_rows outcome))) played.0; told = is });
+          unnamed = λ n line question names.
+              let first = first_is (lines_of input) play.passed play.later play.line line n play.parts play.before here question in
+              absurd (names name play.board (subst (λ (l : List ℕ). Names jobs.grid l name play.board) (sym first.1) play.named));
+          silent = λ none. absurd (some_asked (lines_of input) play.passed play.later play.line play.parts play.before here none);
+        },
+      )
+
+  leaves : WritesNothing source sink status ⊎ WritesRefusal jobs source sink status ⊎ WritesPlay jobs source sink status → Leaves
+  leaves (inl nothing) = leaves_nothing nothing
+  leaves (inr (inl refusal)) = leaves_refusal refusal
+  leaves (inr (inr play)) = leaves_play play
+
+pub outputs_answer : (jobs : Jobs) → ReplayOutputsAreAnswers jobs
+outputs_answer jobs source sink status input known empty replays = leaves jobs source sink status input known empty replays.0

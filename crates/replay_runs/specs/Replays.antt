@@ -1,21 +1,22 @@
 -- What is written for a replay: a board line, and the lines of steps behind it.
-use Rattle.std.specs.Prelude.{ℕ, ◌≡◌, ◌⊎◌, ◌+◌, List, [], ◌∷◌, ◌++◌, length, Result, Ok, Err, All, codes}
+use Rattle.std.specs.Prelude.{ℕ, ◌≡◌, ◌≢◌, ◌≤◌, ◌⊎◌, ◌+◌, true, false, List, [], ◌∷◌, ◌++◌, length, drop, Some, Result, Ok, Err, All, codes}
 use Rattle.board.specs.declared.moves.Move.{Move}
 use Rattle.board.specs.Shapes.{ShapeModel}
 use Rattle.board.specs.Boards.{BoardModel}
 use Rattle.board.specs.Rows.{IsLowerBound}
 use Rattle.byte_streams.specs.Streams.{SourceState, SinkState, Change, from_to}
 use Rattle.byte_streams.specs.Sink.{Puts, PutsBeginning, WritesAll, FailsWriting}
-use Rattle.batch_lines.specs.Lines.{without_return, line_kind_of}
+use Rattle.batch_lines.specs.Lines.{lines_of, without_return, line_kind_of}
+use Rattle.batch_lines.specs.declared.lines.TheConstants.{INPUT_LIMIT}
 use Rattle.batch_lines.specs.declared.lines.LineKind.TheVariants.{Within}
 use Rattle.outcomes.specs.Outcomes.{Answers}
-use Rattle.outcomes.specs.Endings.{without_rows}
+use Rattle.outcomes.specs.Endings.{without_rows, EndAnswers}
 use Rattle.outcomes.specs.declared.outcome.Outcome.{Outcome}
-use Rattle.reports.specs.Reports.{refused_data, report_text}
+use Rattle.reports.specs.Reports.{outcome_data, refused_data, report_text}
 use Rattle.world_model.specs.Openings.{Job, IsJob, opening}
 use Rattle.world_model.specs.Worlds.{WorldState}
 use Rattle.batch_runs.specs.Batches.{AreAll, AreFirst, LosesLine, IsReadable, HasFailed, KeepsFailure}
-use Rattle.batch_runs.specs.Meanings.{Names, HasFault}
+use Rattle.batch_runs.specs.Meanings.{questions, IsQuestion, Names, HasFault}
 use Rattle.batch_runs.specs.declared.faults.LinesFault.{LinesFault}
 use Rattle.batch_runs.specs.declared.faults.LinesFault.TheVariants.{Read, Write, Memory}
 use Rattle.batch_runs.specs.FirstLines.{IsPassedOver, FindsFirst}
@@ -132,3 +133,96 @@ ReportsRefusal sink code n (Ok status) = WritesAll sink (report_text (refused_da
 ReportsRefusal sink code n (Err Read) = ⊥
 ReportsRefusal sink code n (Err Write) = FailsWriting sink (report_text (refused_data code n))
 ReportsRefusal sink code n (Err (Memory lacking)) = sink.after ≡ sink.before
+
+-- ---- laws: the contracts of functions without effect
+
+-- of these lines, the first that asks has this number, and it names this board by this id
+abbrev pub AsksFirst : Jobs → List (List ℕ) → ℕ → List ℕ → BoardModel → Type 0
+AsksFirst jobs lines n id board = (line : List ℕ) × IsQuestion lines 0 n line × Names jobs.grid line id board
+
+-- The board that is played is the one that the first asking line names, and the lines behind that line are replied to in a run of its job.
+-- The outcome at the end answers the task of that board, with its rows and without them, and the world that the run reaches gives it.
+pub record PlaysNamedBoards (jobs : Jobs) : Type 0 where
+  pub played :
+      (lines : List (List ℕ)) (n : ℕ) (name id : List ℕ) (board : BoardModel) (replies : List Reply) (w : WorldState)
+      → AsksFirst jobs lines n name board
+      → IsPlay jobs lines id replies w
+      → (id ≡ name) × ((via : Move) × IsReplied (from_to (opening (jobs.job board) via) w) (drop n lines) replies)
+  pub answered :
+      (lines : List (List ℕ)) (n : ℕ) (name id : List ℕ) (board : BoardModel) (replies : List Reply) (outcome : Outcome)
+      → AsksFirst jobs lines n name board
+      → IsEnd jobs lines id replies outcome
+      → Answers (jobs.job board).task outcome × EndAnswers (jobs.job board).task (without_rows outcome)
+      × ((w : WorldState) × IsPlay jobs lines name replies w × IsReportOf w outcome)
+
+-- A refusal is that of the first asking line of a known input. Where the line names a board, V3 refuses it, and memory was refused for the
+-- board. Where it names none, it is refused by the code of a fault that it has.
+pub record RefusesFirstLines (jobs : Jobs) : Type 0 where
+  pub named :
+      (source : Change SourceState) (input output : List ℕ) (n : ℕ) (id : List ℕ) (board : BoardModel)
+      → source.before.left ≡ Some input
+      → AsksFirst jobs (lines_of input) n id board
+      → RefusesFirst jobs source output
+      → jobs.lacks board × (output ≡ report_text (refused_data (codes "V3") n))
+  pub unnamed :
+      (source : Change SourceState) (input output : List ℕ) (n : ℕ) (line : List ℕ)
+      → source.before.left ≡ Some input
+      → IsQuestion (lines_of input) 0 n line
+      → ((id : List ℕ) (board : BoardModel) → ¬ Names jobs.grid line id board)
+      → RefusesFirst jobs source output
+      → (code : List ℕ) × HasFault jobs.grid line code × (output ≡ report_text (refused_data code n))
+
+-- a replay that says that writing failed leaves a sink that has failed, and a sink fails only in a replay that says so
+abbrev pub FailedReplayWritesAreTold : Jobs → Type 0
+FailedReplayWritesAreTold jobs =
+    ((source : Change SourceState) (sink : Change SinkState) → Replays jobs source sink (Err Write) → sink.after.has_failed ≡ true)
+    × ((source : Change SourceState) (sink : Change SinkState) (result : Result ℕ LinesFault)
+    → sink.before.has_failed ≡ false → result ≢ Err Write → Replays jobs source sink result → sink.after.has_failed ≡ false)
+
+-- where an input is within the limit, a replay that says that reading failed leaves a source that has failed; and a source fails only in a replay that says so
+abbrev pub FailedReplayReadsAreTold : Jobs → Type 0
+FailedReplayReadsAreTold jobs =
+    ((source : Change SourceState) (sink : Change SinkState) (input : List ℕ)
+    → source.before.left ≡ Some input → length input ≤ INPUT_LIMIT → Replays jobs source sink (Err Read) → source.after.has_failed ≡ true)
+    × ((source : Change SourceState) (sink : Change SinkState) (result : Result ℕ LinesFault) → result ≢ Err Read → Replays jobs source sink result → source.after.has_failed ≡ false)
+
+-- The output replies to the lines behind line n, whose steps are a run of the board's job, and then reports, by this id, an outcome that the
+-- reached world gives. It answers the board's task, and this is the status.
+pub record AnswersBoard (jobs : Jobs) (lines : List (List ℕ)) (n : ℕ) (id : List ℕ) (board : BoardModel) (output : List ℕ) (status : ℕ) : Type 0 where
+  pub replies : List Reply
+  pub via : Move
+  pub end : WorldState
+  pub outcome : Outcome
+  pub replied : IsReplied (from_to (opening (jobs.job board) via) end) (drop n lines) replies
+  pub given : IsReportOf end outcome
+  pub answers : EndAnswers (jobs.job board).task (without_rows outcome)
+  pub text : output ≡ replies_text replies ++ report_text (outcome_data id (without_rows outcome))
+  pub told : status ≡ replay_status_of (are_fine replies) (without_rows outcome)
+
+-- line n is refused by V3, since memory was refused for its board
+abbrev pub LacksBoard : Jobs → ℕ → BoardModel → List ℕ → ℕ → Type 0
+LacksBoard jobs n board output status = jobs.lacks board × (output ≡ report_text (refused_data (codes "V3") n)) × (status ≡ 1)
+
+-- What a replay that ends well leaves in an empty sink. Where the first asking line of the input names a board, the output answers the board,
+-- or V3 refuses the line. Where that line names none, the output is the report of a fault of the line. Where no line asks, it is empty.
+pub record LeavesAnswers (jobs : Jobs) (source : Change SourceState) (sink : Change SinkState) (status : ℕ) (input output : List ℕ) : Type 0 where
+  pub left : sink.after.contents ≡ Some output
+  pub named :
+      (n : ℕ) (id : List ℕ) (board : BoardModel)
+      → AsksFirst jobs (lines_of input) n id board
+      → AnswersBoard jobs (lines_of input) n id board output status ⊎ LacksBoard jobs n board output status
+  pub unnamed :
+      (n : ℕ) (line : List ℕ)
+      → IsQuestion (lines_of input) 0 n line
+      → ((id : List ℕ) (board : BoardModel) → ¬ Names jobs.grid line id board)
+      → (code : List ℕ) × HasFault jobs.grid line code × (output ≡ report_text (refused_data code n)) × (status ≡ 1)
+  pub silent : questions 1 (lines_of input) ≡ [] → (output ≡ []) × (status ≡ 0)
+
+-- where the input is known and the sink was empty, a replay that ends well leaves such an output
+abbrev pub ReplayOutputsAreAnswers : Jobs → Type 0
+ReplayOutputsAreAnswers jobs =
+    (source : Change SourceState) (sink : Change SinkState) (status : ℕ) (input : List ℕ)
+    → source.before.left ≡ Some input
+    → sink.before.contents ≡ Some []
+    → Replays jobs source sink (Ok status)
+    → (output : List ℕ) × LeavesAnswers jobs source sink status input output

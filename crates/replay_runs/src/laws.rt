@@ -1,7 +1,12 @@
-//! The law of replies: the contract of a function without effect.
+//! The laws of replies and of replays: each is the contract of a function without effect.
 
+ghost use Rattle.replay_runs.specs.Replays.{PlaysNamedBoards, RefusesFirstLines};
+ghost use Rattle.replay_runs.specs.Replays.{FailedReplayWritesAreTold, FailedReplayReadsAreTold};
+ghost use Rattle.replay_runs.specs.Replays.{ReplayOutputsAreAnswers};
 ghost use Rattle.replay_runs.specs.Replies.{StepsAreTaken};
 
+use crate::board_line::Opener;
+use crate::stepping::Run;
 use step_lines::read_step;
 
 /// Where a text says a step, the reply to it is that this step was taken, or refused.
@@ -10,4 +15,40 @@ pub fn steps_are_taken(bytes: &[u8])
     ensures { StepsAreTaken bytes.now }
 {
     let _ = read_step(bytes);
+}
+
+/// The board that is played is the one that the first asking line names, and the outcome at the end
+/// answers its task.
+#[tactic(auto, using(crate::proofs::ReadLemmas::plays_named))]
+pub fn named_boards_are_played<R: Run, O: Opener<R>>(opener: &O)
+    ensures { PlaysNamedBoards (O.jobs opener.now) }
+{
+    let _ = opener;
+}
+
+/// A refusal tells of the first asking line: a fault of it, or that memory was refused for the
+/// board that it names.
+#[tactic(auto, using(crate::proofs::ReadLemmas::refuses_first))]
+pub fn first_lines_are_refused<R: Run, O: Opener<R>>(opener: &O)
+    ensures { RefusesFirstLines (O.jobs opener.now) }
+{
+    let _ = opener;
+}
+
+/// A sink or a source fails in a replay that says so, and in no other.
+pub fn failed_streams_are_told<R: Run, O: Opener<R>>(opener: &O)
+    ensures writes { FailedReplayWritesAreTold (O.jobs opener.now) }
+    ensures reads { FailedReplayReadsAreTold (O.jobs opener.now) }
+{
+    let _ = opener;
+}
+
+/// Where the input is known and the output was empty, a replay that ends well leaves an answer to
+/// the board that the first asking line names, or the refusal of that line; or nothing, where no
+/// line asks.
+#[tactic(auto, using(crate::proofs::ReadLemmas::outputs_answer))]
+pub fn replay_outputs_are_answers<R: Run, O: Opener<R>>(opener: &O)
+    ensures { ReplayOutputsAreAnswers (O.jobs opener.now) }
+{
+    let _ = opener;
 }
