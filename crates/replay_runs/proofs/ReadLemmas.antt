@@ -21,7 +21,7 @@ use Rattle.world_model.specs.Steps.{IsRun}
 use Rattle.replay_runs.specs.Replies.{Reply, replies_text, replay_status_of, TextSays, RepliesToText, RepliesToKind, RepliesTo, RepliesToEach, Changes, steps_of, reply_text, reply_to, is_fine, are_fine, StepsAreTaken}
 use Rattle.replay_runs.specs.Replies.Reply.{passed_over, no_step, taken}
 use Rattle.batch_runs.specs.declared.faults.LinesFault.TheVariants.{Read, Write, Memory}
-use Rattle.replay_runs.specs.Stepping.{IsReplied, IsReportOf, RepliesToLines, Finishes}
+use Rattle.replay_runs.specs.Stepping.{IsReplied, IsReportOf, output_of, RepliesToLines, Finishes}
 use Rattle.board.specs.Boards.{BoardModel}
 use Rattle.batch_lines.specs.Words.{IsEntry, IsFirstEntryFault, entry_code}
 use Rattle.batch_lines.specs.declared.words.EntryFault.{EntryFault}
@@ -32,13 +32,14 @@ use Rattle.world_model.specs.Laws.{RunsAnswer}
 use Rattle.batch_runs.specs.Meanings.{Names}
 use Rattle.batch_runs.specs.declared.faults.LinesFault.{LinesFault}
 use Rattle.replay_runs.specs.Replays.{Jobs, IsReadLine, OpensRun, IsLineRefusedBy, RefusesFirst, IsPlay, IsEnd, WritesNothing, WritesRefusal, WritesPlay, Replays, ReportsRefusal}
-use Rattle.replay_runs.specs.Replays.{AsksFirst, PlaysNamedBoards, RefusesFirstLines, AnswersBoard, LacksBoard, LeavesAnswers, ReplayOutputsAreAnswers}
+use Rattle.replay_runs.specs.Replays.{AsksFirst, PlaysNamedBoards, RefusesFirstLines, AnswersBoard, LacksBoard, LeavesAnswers, ReplayOutputsAreAnswers, LosesReplay, BeginsReplay, LacksReport, RepliesToFirst, BeginsAnswer, EarlyReplaysBeginAnswers}
 use Rattle.std.specs.Prelude.{drop, slice_get, not, ◌⊎◌}
 use Rattle.std.specs.Io.KnownBytes.{Appends}
 use Rattle.std.proofs.Math.Seq.{drop-append-add}
 use Rattle.std.proofs.lemmas.List.Elements.{All-head, All-tail}
 use Rattle.board.specs.Shapes.{ShapeModel}
 use Rattle.board.specs.declared.moves.Move.{Move}
+use Rattle.board.specs.declared.moves.Move.TheVariants.{U}
 use Rattle.batch_lines.specs.Lines.{lines_of, line_kind_of}
 use Rattle.outcomes.specs.Outcomes.{Task, Answers}
 use Rattle.outcomes.specs.Endings.{EndAnswers}
@@ -497,3 +498,64 @@ module _ (jobs : Jobs) (source : Change SourceState) (sink : Change SinkState) (
 
 pub outputs_answer : (jobs : Jobs) → ReplayOutputsAreAnswers jobs
 outputs_answer jobs source sink status input known empty replays = leaves jobs source sink status input known empty replays.0
+
+-- ---- what they say of replays that end early
+
+module _ (jobs : Jobs) (source : Change SourceState) (sink : Change SinkState) (input : List ℕ) (n : ℕ) (id : List ℕ) (board : BoardModel) (known : source.before.left ≡ Some input) (empty : sink.before.contents ≡ Some []) (asks_it : AsksFirst jobs (lines_of input) n id board) where
+  abbrev Due : List ℕ → Type 0
+  Due text = RepliesToFirst jobs (lines_of input) n board text ⊎ ((status : ℕ) × (AnswersBoard jobs (lines_of input) n id board text status ⊎ LacksBoard jobs n board text status))
+
+  abbrev Begins : Type 0
+  Begins = BeginsAnswer jobs sink (lines_of input) n id board
+
+  none_due : Due []
+  none_due = inl (record { first = []; more = drop n (lines_of input); replies = []; via = U; end = opening (jobs.job board) U; parts = refl; replied = IsReplied-none (opening (jobs.job board) U); is = refl })
+
+  begun : (text : List ℕ) → Due text → PutsBeginning sink text → Begins
+  begun text due begins = record { written = begins.sent; unwritten = begins.unsent; left = held sink.before.contents sink.after.contents begins.sent empty begins.put; due = subst Due begins.parts due }
+
+  put_all : (text : List ℕ) → Due text → Puts sink text → Begins
+  put_all text due put = begun text due (record { sent = text; unsent = []; parts = sym (append-nil text); put = put })
+
+  replies_due : (lines : List (List ℕ)) (name : List ℕ) (replies : List Reply) (w : WorldState) → AreFirst source.before.left lines → IsPlay jobs lines name replies w → Due (replies_text replies)
+  replies_due lines name replies w begins play =
+      let some : (more : List (List ℕ)) × (lines_of input ≡ lines ++ more) = subst (λ (left : Option (List ℕ)). AreFirst left lines) known begins in
+      let parts : lines_of input ≡ play.passed ++ play.line ∷ (play.later ++ some.0) = some.1 ∙ ap (λ (ls : List (List ℕ)). ls ++ some.0) play.parts ∙ append_assoc play.passed (play.line ∷ play.later) some.0 in
+      let here = first_is (lines_of input) play.passed (play.later ++ some.0) play.line asks_it.0 n parts play.before (named_here jobs.grid play.line name play.board play.named) asks_it.1 in
+      let same = same_name jobs.grid play.line id name board play.board (subst (λ (line : List ℕ). Names jobs.grid line id board) here.1 asks_it.2) play.named in
+      inl (record { first = play.later; more = some.0; replies = replies; via = play.via; end = w; parts = here.2; replied = subst (λ (b : BoardModel). IsReplied (from_to (opening (jobs.job b) play.via) w) play.later replies) same.1 play.replied; is = refl })
+
+  refusal_due : (output : List ℕ) → RefusesFirst jobs source output → Due output
+  refusal_due output refuses = let want = refused_by_want jobs source input output n id board known asks_it refuses in inr (1, inr (want.0, want.1, refl))
+
+  end_due : (lines : List (List ℕ)) (name : List ℕ) (replies : List Reply) (outcome : Outcome) → AreAll source.before.left lines → IsEnd jobs lines name replies outcome → Due (output_of replies name outcome)
+  end_due lines name replies outcome all end =
+      let ended : IsEnd jobs (lines_of input) name replies outcome = subst (λ (ls : List (List ℕ)). IsEnd jobs ls name replies outcome) (sym (subst (λ (left : Option (List ℕ)). AreAll left lines) known all)) end in
+      let played = named_played jobs (lines_of input) n id name board replies ended.world asks_it ended.play in
+      let answered = named_answered jobs (lines_of input) n id name board replies outcome asks_it ended in
+      inr (replay_status_of (are_fine replies) (without_rows outcome), inl (record { replies = replies; via = played.1.0; end = ended.world; outcome = outcome; replied = played.1.1; given = ended.given; answers = answered.1; text = ap (λ (i : List ℕ). replies_text replies ++ report_text (outcome_data i (without_rows outcome))) played.0; told = refl }))
+
+  all_first : (lines : List (List ℕ)) → AreAll source.before.left lines → AreFirst source.before.left lines
+  all_first lines all = of source.before.left all
+    where
+      of : (left : Option (List ℕ)) → AreAll left lines → AreFirst left lines
+      of None all = tt
+      of (Some bytes) all = ([], all ∙ sym (append-nil lines))
+
+  loses : LosesReplay jobs source sink → Begins
+  loses (lines, lost, inl (over, put)) = put_all [] none_due put
+  loses (lines, lost, inr (name, replies, w, play, put)) = put_all (replies_text replies) (replies_due lines name replies w (AreFirst-read source.before.left lost.between.left lines lost.whole) play) put
+
+  begins_replay : BeginsReplay jobs source sink → Begins
+  begins_replay (inl (output, refuses, begins)) = begun output (refusal_due output refuses) begins
+  begins_replay (inr (inl (lines, name, replies, w, first, play, begins))) = begun (replies_text replies) (replies_due lines name replies w first play) begins
+  begins_replay (inr (inr (lines, name, replies, outcome, all, end, begins))) = begun (output_of replies name outcome) (end_due lines name replies outcome all end) begins
+
+  lacks_report : LacksReport jobs source sink → Begins
+  lacks_report (inl (output, refuses, put)) = put_all [] none_due put
+  lacks_report (inr (lines, name, replies, w, all, play, put)) = put_all (replies_text replies) (replies_due lines name replies w (all_first lines all) play) put
+
+pub early_begins : (jobs : Jobs) → EarlyReplaysBeginAnswers jobs
+early_begins jobs source sink Read input n id board known empty asks_it replays = loses jobs source sink input n id board known empty asks_it replays.0
+early_begins jobs source sink Write input n id board known empty asks_it replays = begins_replay jobs source sink input n id board known empty asks_it replays.0
+early_begins jobs source sink (Memory lacking) input n id board known empty asks_it replays = lacks_report jobs source sink input n id board known empty asks_it replays.0

@@ -226,3 +226,33 @@ ReplayOutputsAreAnswers jobs =
     → sink.before.contents ≡ Some []
     → Replays jobs source sink (Ok status)
     → (output : List ℕ) × LeavesAnswers jobs source sink status input output
+
+-- the text has a reply to each of the first lines behind line n, whose steps are a run of the board's job, and nothing else
+pub record RepliesToFirst (jobs : Jobs) (lines : List (List ℕ)) (n : ℕ) (board : BoardModel) (text : List ℕ) : Type 0 where
+  pub first : List (List ℕ)
+  pub more : List (List ℕ)
+  pub replies : List Reply
+  pub via : Move
+  pub end : WorldState
+  pub parts : drop n lines ≡ first ++ more
+  pub replied : IsReplied (from_to (opening (jobs.job board) via) end) first replies
+  pub is : text ≡ replies_text replies
+
+-- the sink holds a beginning of such replies, or of what answers the board, or of the report by which V3 refuses its line
+pub record BeginsAnswer (jobs : Jobs) (sink : Change SinkState) (lines : List (List ℕ)) (n : ℕ) (id : List ℕ) (board : BoardModel) : Type 0 where
+  pub written : List ℕ
+  pub unwritten : List ℕ
+  pub left : sink.after.contents ≡ Some written
+  pub due :
+      RepliesToFirst jobs lines n board (written ++ unwritten)
+      ⊎ ((status : ℕ) × (AnswersBoard jobs lines n id board (written ++ unwritten) status ⊎ LacksBoard jobs n board (written ++ unwritten) status))
+
+-- where the input is known, its first asking line names the board, and the sink was empty, a replay that ends early leaves such a beginning
+abbrev pub EarlyReplaysBeginAnswers : Jobs → Type 0
+EarlyReplaysBeginAnswers jobs =
+    (source : Change SourceState) (sink : Change SinkState) (fault : LinesFault) (input : List ℕ) (n : ℕ) (id : List ℕ) (board : BoardModel)
+    → source.before.left ≡ Some input
+    → sink.before.contents ≡ Some []
+    → AsksFirst jobs (lines_of input) n id board
+    → Replays jobs source sink (Err fault)
+    → BeginsAnswer jobs sink (lines_of input) n id board

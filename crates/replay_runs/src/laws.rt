@@ -2,7 +2,7 @@
 
 ghost use Rattle.replay_runs.specs.Replays.{PlaysNamedBoards, RefusesFirstLines};
 ghost use Rattle.replay_runs.specs.Replays.{FailedReplayWritesAreTold, FailedReplayReadsAreTold};
-ghost use Rattle.replay_runs.specs.Replays.{ReplayOutputsAreAnswers};
+ghost use Rattle.replay_runs.specs.Replays.{ReplayOutputsAreAnswers, EarlyReplaysBeginAnswers};
 ghost use Rattle.replay_runs.specs.Replies.{StepsAreTaken};
 
 use crate::board_line::Opener;
@@ -49,6 +49,15 @@ pub fn failed_streams_are_told<R: Run, O: Opener<R>>(opener: &O)
 #[tactic(auto, using(crate::proofs::ReadLemmas::outputs_answer))]
 pub fn replay_outputs_are_answers<R: Run, O: Opener<R>>(opener: &O)
     ensures { ReplayOutputsAreAnswers (O.jobs opener.now) }
+{
+    let _ = opener;
+}
+
+/// And one that ends early leaves a beginning of such an answer, or of the replies to the first of
+/// the lines that say steps.
+#[tactic(auto, using(crate::proofs::ReadLemmas::early_begins))]
+pub fn early_replays_begin_answers<R: Run, O: Opener<R>>(opener: &O)
+    ensures { EarlyReplaysBeginAnswers (O.jobs opener.now) }
 {
     let _ = opener;
 }
