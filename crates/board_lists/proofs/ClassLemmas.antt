@@ -222,7 +222,7 @@ fronts_same b c bs cs rising rising' b_in c_in = elim (front_or_behind c cs b b_
   ]
 ]
 
--- what stands behind the first of one list does so in the other
+-- what comes behind the first of one list does so in the other
 both_behind : (b c : BoardModel) (bs cs : List BoardModel) → Rise (b ∷ bs) → b ≡ c → (d : BoardModel) → (Contains (b ∷ bs) d → Contains (c ∷ cs) d) → Contains bs d → Contains cs d
 both_behind b c bs cs rising same d to d_in = elim (front_or_behind c cs d (to (in_behind b bs d d_in))) [
   | inl is ↦ absurd (omega (arith, subst (λ (x : BoardModel). key_of b < key_of x) (sym (same ∙ is)) (front_least b bs rising d d_in)))

@@ -18,8 +18,8 @@ use crate::source::{ByteSource, Source};
 use crate::writer::Writer;
 use std::io::{Read, Write};
 
-/// What is left of a source is what is left of its reader, behind the bytes that it holds; what a
-/// sink holds is what its writer does, and it is flushed where the writer is as a flush left it.
+/// What is left of a source is what is left of its reader, behind the bytes that it holds. What a
+/// sink holds is what its writer holds. It is flushed where the writer is as a flush left it.
 pub fn streams_are_those_of_readers_and_writers<R: Reader, W: Writer>()
     ensures source { ⟦<ByteSource<R> as Source>⟧.state ≡ byte_source_state R.left }
     ensures buffered { ⟦<BufferedSource<R> as Source>⟧.state ≡ buffered_state R.left }

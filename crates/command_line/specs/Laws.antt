@@ -147,7 +147,7 @@ RunsAreSaid =
     × (AsksRun (Some (name, rows)) (Draw look) → IsStyle rows look)
     × (AsksRun (Some (name, rows)) (Boards l) → SaysListing rows l)
 
--- `check` and `upgrade` are never refused, and `show` only for want of memory
+-- `check` and `upgrade` are never refused, and `show` only where memory is
 abbrev pub RunsWithoutBoardsAreAsked : Type 0
 RunsWithoutBoardsAreAsked =
     (rows : List Row) (refusal : NoRequest)

@@ -50,8 +50,8 @@ pub record IsPlainSearch (o : Options) : Type 0 where
   pub spread : o.spread ≡ Abstract
   pub limit : o.limit ≡ 2 ^ 64 - 1
 
--- `check` asks only for a check, `upgrade` only for an upgrade, `show` with these options only for an SVG file of 2 seconds a move, `replay`
--- with the sides of its boards only for a replay, and `solve` with these options only for such a search, without a certificate
+-- `check` asks only for a check, and `upgrade` only for an upgrade. With these options `show` asks only for an SVG file of 2 seconds a move,
+-- `replay` only for a replay, and `solve` only for such a search, without a certificate.
 pub record WordsAskOneThing : Type 0 where
   pub check : (request : Request) → WordsAsk (codes "check" ∷ []) request → request ≡ Check
   pub upgrade : (request : Request) → WordsAsk (codes "upgrade" ∷ []) request → request ≡ Upgrade
@@ -59,6 +59,6 @@ pub record WordsAskOneThing : Type 0 where
   pub replay : (request : Request) → WordsAsk (codes "replay" ∷ codes "--rows" ∷ codes "3" ∷ codes "--cols" ∷ codes "4" ∷ []) request → (o : Options) × (request ≡ Replay o)
   pub solve : (request : Request) → WordsAsk (codes "solve" ∷ codes "--rows" ∷ codes "3" ∷ codes "--cols" ∷ codes "4" ∷ codes "--spread" ∷ codes "abstract" ∷ []) request → (o : Options) × (request ≡ Solve o) × IsPlainSearch o
 
--- `check` is refused only for want of memory
+-- `check` is refused only where memory is
 pub record WordsAreNotRefused : Type 0 where
   pub check : (refusal : NoRequest) → WordsFail (codes "check" ∷ []) refusal → refusal ≡ Memory

@@ -31,7 +31,7 @@ pub fn words_ask_one_thing()
     ensures { WordsAskOneThing }
 {}
 
-/// `check` is refused only for want of memory.
+/// `check` is refused only where memory is.
 #[tactic(auto, using(crate::proofs::ParseLemmas::words_are_not_refused))]
 pub fn words_are_not_refused()
     ensures { WordsAreNotRefused }

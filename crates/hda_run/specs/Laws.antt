@@ -119,7 +119,7 @@ UnsolvableTruthsHaveNoPlan =
     → ((cost : ℕ) (plan : Vec Move Global) (rows : Vec (BoardModel × ℕ) Global) → ¬ TellsTruth p (Optimal cost plan rows))
     × ((bound cost : ℕ) (plan : Vec Move Global) (cause : Cause) (rows : Option (Vec (BoardModel × ℕ) Global)) → ¬ TellsTruth p (Bounded bound (Some (cost, plan)) cause rows))
 
--- a plan that is told leads from the start to the goal at the cost that is told with it, as the best one or beside a bound
+-- a plan of such an outcome leads from the start to the goal at the cost beside it, whether it is a least one or the best beside a bound
 abbrev pub TruePlansLead : Type 0
 TruePlansLead =
     (p : JobModel) (cost : ℕ) (plan : Vec Move Global)

@@ -32,7 +32,7 @@ use Rattle.world_model.specs.Laws.{RunsAnswer}
 use Rattle.batch_runs.specs.Meanings.{Names}
 use Rattle.batch_runs.specs.declared.faults.LinesFault.{LinesFault}
 use Rattle.replay_runs.specs.Replays.{Jobs, IsReadLine, OpensRun, IsLineRefusedBy, RefusesFirst, IsPlay, IsEnd, WritesNothing, WritesRefusal, WritesPlay, Replays, ReportsRefusal}
-use Rattle.replay_runs.specs.Replays.{AsksFirst, PlaysNamedBoards, RefusesFirstLines, AnswersBoard, LacksBoard, LeavesAnswers, ReplayOutputsAreAnswers, LosesReplay, BeginsReplay, LacksReport, RepliesToFirst, BeginsAnswer, EarlyReplaysBeginAnswers}
+use Rattle.replay_runs.specs.Replays.{AsksFirst, PlaysNamedBoards, RefusesFirstLines, AnswersNamedBoard, LacksBoard, LeavesAnswers, ReplayOutputsAreAnswers, LosesReplay, BeginsReplay, LacksReport, RepliesToFirstSteps, BeginsAnswer, EarlyReplaysBeginAnswers}
 use Rattle.std.specs.Prelude.{drop, slice_get, not, ◌⊎◌}
 use Rattle.std.specs.Io.KnownBytes.{Appends}
 use Rattle.std.proofs.Math.Seq.{drop-append-add}
@@ -503,7 +503,7 @@ outputs_answer jobs source sink status input known empty replays = leaves jobs s
 
 module _ (jobs : Jobs) (source : Change SourceState) (sink : Change SinkState) (input : List ℕ) (n : ℕ) (id : List ℕ) (board : BoardModel) (known : source.before.left ≡ Some input) (empty : sink.before.contents ≡ Some []) (asks_it : AsksFirst jobs (lines_of input) n id board) where
   abbrev Due : List ℕ → Type 0
-  Due text = RepliesToFirst jobs (lines_of input) n board text ⊎ ((status : ℕ) × (AnswersBoard jobs (lines_of input) n id board text status ⊎ LacksBoard jobs n board text status))
+  Due text = RepliesToFirstSteps jobs (lines_of input) n board text ⊎ ((status : ℕ) × (AnswersNamedBoard jobs (lines_of input) n id board text status ⊎ LacksBoard jobs n board text status))
 
   abbrev Begins : Type 0
   Begins = BeginsAnswer jobs sink (lines_of input) n id board

@@ -188,7 +188,7 @@ FailedReplayReadsAreTold jobs =
 
 -- The output replies to the lines behind line n, whose steps are a run of the board's job, and then reports, by this id, an outcome that the
 -- reached world gives. It answers the board's task, and this is the status.
-pub record AnswersBoard (jobs : Jobs) (lines : List (List ℕ)) (n : ℕ) (id : List ℕ) (board : BoardModel) (output : List ℕ) (status : ℕ) : Type 0 where
+pub record AnswersNamedBoard (jobs : Jobs) (lines : List (List ℕ)) (n : ℕ) (id : List ℕ) (board : BoardModel) (output : List ℕ) (status : ℕ) : Type 0 where
   pub replies : List Reply
   pub via : Move
   pub end : WorldState
@@ -210,7 +210,7 @@ pub record LeavesAnswers (jobs : Jobs) (source : Change SourceState) (sink : Cha
   pub named :
       (n : ℕ) (id : List ℕ) (board : BoardModel)
       → AsksFirst jobs (lines_of input) n id board
-      → AnswersBoard jobs (lines_of input) n id board output status ⊎ LacksBoard jobs n board output status
+      → AnswersNamedBoard jobs (lines_of input) n id board output status ⊎ LacksBoard jobs n board output status
   pub unnamed :
       (n : ℕ) (line : List ℕ)
       → IsQuestion (lines_of input) 0 n line
@@ -228,7 +228,7 @@ ReplayOutputsAreAnswers jobs =
     → (output : List ℕ) × LeavesAnswers jobs source sink status input output
 
 -- the text has a reply to each of the first lines behind line n, whose steps are a run of the board's job, and nothing else
-pub record RepliesToFirst (jobs : Jobs) (lines : List (List ℕ)) (n : ℕ) (board : BoardModel) (text : List ℕ) : Type 0 where
+pub record RepliesToFirstSteps (jobs : Jobs) (lines : List (List ℕ)) (n : ℕ) (board : BoardModel) (text : List ℕ) : Type 0 where
   pub first : List (List ℕ)
   pub more : List (List ℕ)
   pub replies : List Reply
@@ -244,8 +244,8 @@ pub record BeginsAnswer (jobs : Jobs) (sink : Change SinkState) (lines : List (L
   pub unwritten : List ℕ
   pub left : sink.after.contents ≡ Some written
   pub due :
-      RepliesToFirst jobs lines n board (written ++ unwritten)
-      ⊎ ((status : ℕ) × (AnswersBoard jobs lines n id board (written ++ unwritten) status ⊎ LacksBoard jobs n board (written ++ unwritten) status))
+      RepliesToFirstSteps jobs lines n board (written ++ unwritten)
+      ⊎ ((status : ℕ) × (AnswersNamedBoard jobs lines n id board (written ++ unwritten) status ⊎ LacksBoard jobs n board (written ++ unwritten) status))
 
 -- where the input is known, its first asking line names the board, and the sink was empty, a replay that ends early leaves such a beginning
 abbrev pub EarlyReplaysBeginAnswers : Jobs → Type 0

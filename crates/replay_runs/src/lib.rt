@@ -7,7 +7,7 @@
 //!   ends.
 //! - The last report is that of the ending, since rows are not reported.
 //! - The laws at the end of `specs/Replays.antt` say what these give: the board that the first
-//!   asking line names is played and answered, and a failure of a stream is told.
+//!   asking line names is played and answered, and a failure of a stream is named.
 //! - Start with `specs/Replays.antt`, then `src/board_line.rt`, `src/stepping.rt`.
 #![tactic(auto)]
 
