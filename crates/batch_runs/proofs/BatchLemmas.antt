@@ -288,7 +288,7 @@ lost source lines input is short losing = of_cause losing.cause
     of_cause (inr long) = absurd (fits source.before.left input is short long)
 
 -- what was put into an empty sink is what it holds
-held : (before after : Option (List ℕ)) (bytes : List ℕ) → before ≡ Some [] → Appends before after bytes → after ≡ Some bytes
+pub held : (before after : Option (List ℕ)) (bytes : List ℕ) → before ≡ Some [] → Appends before after bytes → after ≡ Some bytes
 held before after bytes empty put = of_after after (subst (λ (contents : Option (List ℕ)). Appends contents after bytes) empty put)
   where
     of_after : (after : Option (List ℕ)) → Appends (Some []) after bytes → after ≡ Some bytes

@@ -51,7 +51,7 @@ use Rattle.drawings.specs.declared.drawing.Style.{Style}
 use Rattle.drawings.specs.Drawings.{IsDrawing}
 use Rattle.certificate_runs.specs.Built.{AreBuiltFor}
 use Rattle.batch_runs.specs.Batches.{AnswersEntry, AnswersKind, AnswersLine, Rules, IsTruthful, Answer, AnswersLines, AreAll, AreFirst, answer_text, answers_text}
-use Rattle.batch_runs.proofs.BatchLemmas.{AreFirst-read}
+use Rattle.batch_runs.proofs.BatchLemmas.{AreFirst-read, held}
 use Rattle.batch_runs.specs.Batches.AnswersEntry.{by_outcome, by_fault, by_want}
 use Rattle.batch_runs.specs.Batches.Answer.{answered, passed_over}
 use Rattle.batch_runs.specs.Meanings.{Names, IsReply, asks, questions}
@@ -313,14 +313,6 @@ module _ (split : PartitionModel) (rules : ProofRules) (truthful : ProvesTruly r
     silent = λ none. absurd (spoken (first.passed ++ first.line ∷ []) (1 + length first.passed) first.line output.text (one_asks 1 first.passed first.line (recursion_from_All IsPassedOver first.passed first.finds.before) first.finds.here) (first_answered output first replies) none);
   }
   answer_true (Err fault) replies = tt
-
--- what was put into an empty sink is what it holds
-held : (before after : Option (List ℕ)) (bytes : List ℕ) → before ≡ Some [] → Appends before after bytes → after ≡ Some bytes
-held before after bytes empty put = of_after after (subst (λ (contents : Option (List ℕ)). Appends contents after bytes) empty put)
-  where
-    of_after : (after : Option (List ℕ)) → Appends (Some []) after bytes → after ≡ Some bytes
-    of_after None none = absurd none
-    of_after (Some now) is = ap (λ (l : List ℕ). Some l) is
 
 pub first_lines : (rules : ProofRules) → FirstLinesAreAnswered rules
 first_lines rules split source sink status input known empty answer =

@@ -48,7 +48,7 @@ use Rattle.world_model.specs.Openings.{opening}
 use Rattle.batch_runs.specs.Batches.{AreAll, AreFirst}
 use Rattle.batch_runs.specs.Meanings.{HasFault, questions, IsQuestion}
 use Rattle.batch_runs.proofs.TruthLemmas.{same_name, no_fault}
-use Rattle.batch_runs.proofs.BatchLemmas.{AreFirst-read}
+use Rattle.batch_runs.proofs.BatchLemmas.{AreFirst-read, held}
 
 -- ---- one reply more
 
@@ -416,14 +416,6 @@ pub refuses_first : (jobs : Jobs) → RefusesFirstLines jobs
 refuses_first jobs = record { named = refused_by_want jobs; unnamed = refused_by_fault jobs }
 
 -- ---- what they say of outputs
-
--- what was put into an empty sink is what it holds
-held : (before after : Option (List ℕ)) (bytes : List ℕ) → before ≡ Some [] → Appends before after bytes → after ≡ Some bytes
-held before after bytes empty put = of_after after (subst (λ (contents : Option (List ℕ)). Appends contents after bytes) empty put)
-  where
-    of_after : (after : Option (List ℕ)) → Appends (Some []) after bytes → after ≡ Some bytes
-    of_after None none = absurd none
-    of_after (Some now) is = ap (λ (l : List ℕ). Some l) is
 
 no_first : (asked : ℕ × List ℕ) → None ≢ Some asked
 no_first asked is = absurd (cc)
