@@ -6,7 +6,7 @@ ghost use Rattle.byte_streams.specs.Laws.{PutsTellFailures, FlushesTellFailures}
 ghost use Rattle.byte_streams.specs.Laws.{PutsAddBytes, FlushesAddNone};
 ghost use Rattle.byte_streams.specs.Laws.{PutFailuresLast, FlushFailuresLast};
 ghost use Rattle.byte_streams.specs.Buffered.{buffered_state};
-ghost use Rattle.byte_streams.specs.ByteSink.{byte_sink_state, WasFlushed};
+ghost use Rattle.byte_streams.specs.ByteSink.{byte_sink_state, inner_writer, WasFlushed};
 ghost use Rattle.byte_streams.specs.ByteSource.{byte_source_state};
 ghost use Rattle.byte_streams.specs.declared.sink.ByteSink.{ByteSink};
 ghost use Rattle.std.specs.Prelude.{◌≡◌, ◌↔◌};
@@ -26,6 +26,8 @@ pub fn streams_are_those_of_readers_and_writers<R: Reader, W: Writer>()
     ensures sink { ⟦<ByteSink<W> as Sink>⟧.state ≡ byte_sink_state W.contents }
     ensures flushed { (sink : ByteSink W)
         → ⟦<ByteSink<W> as Sink>⟧.is_flushed sink ↔ WasFlushed W.flushes sink }
+    ensures writer { (sink : ByteSink W) → ⟦<ByteSink<W> as Sink>⟧.is_flushed sink
+        → (before : W) × W.flushes before (inner_writer sink) }
 {}
 
 /// What is left of a reader of std, and what a writer of std holds, is what std says.
