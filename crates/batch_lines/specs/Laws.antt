@@ -1,9 +1,9 @@
 -- The laws of the definitions. Each is the contract of a function that does nothing.
-use Rattle.std.specs.Prelude.{ℕ, ◌≡◌, ◌+◌, ◌≤◌, true, List, ◌∷◌, length, None, Some, Ok, Err}
+use Rattle.std.specs.Prelude.{ℕ, ◌≡◌, ◌+◌, ◌≤◌, true, List, ◌∷◌, ◌++◌, length, None, Some, Ok, Err}
 use Rattle.byte_streams.specs.Streams.{SourceState, Change}
 use Rattle.byte_streams.specs.declared.source.ReadFailed.{ReadFailed}
 use Rattle.batch_lines.specs.Lines.{lines_of}
-use Rattle.batch_lines.specs.Readings.{LineReaderModel, ReadsLine}
+use Rattle.batch_lines.specs.Readings.{LineReaderModel, HasNoFeed, ReadsLine}
 use Rattle.batch_lines.specs.declared.lines.Line.{Line}
 use Rattle.batch_lines.specs.declared.lines.TheConstants.{INPUT_LIMIT}
 
@@ -28,3 +28,13 @@ LinesAreLostToFailures =
     → reader.before.taken + length input ≤ INPUT_LIMIT
     → ReadsLine source reader (Err failure)
     → source.after.has_failed ≡ true
+
+-- where a line of an input within the limit is lost, no byte that was taken is a line feed
+abbrev pub LostBytesHaveNoFeed : Type 0
+LostBytesHaveNoFeed =
+    (source : Change SourceState) (reader : Change LineReaderModel) (failure : ReadFailed) (input rest : List ℕ)
+    → source.before.left ≡ Some input
+    → source.after.left ≡ Some rest
+    → reader.before.taken + length input ≤ INPUT_LIMIT
+    → ReadsLine source reader (Err failure)
+    → (seen : List ℕ) × (input ≡ seen ++ rest) × HasNoFeed seen

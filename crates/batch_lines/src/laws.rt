@@ -1,7 +1,7 @@
 //! The laws of the definitions: each is the contract of a function that does no more than it says.
 
 ghost use Rattle.batch_lines.specs.Laws.{EndsTakeNothing, LinesAreNumbered};
-ghost use Rattle.batch_lines.specs.Laws.{LinesAreLostToFailures};
+ghost use Rattle.batch_lines.specs.Laws.{LinesAreLostToFailures, LostBytesHaveNoFeed};
 ghost use Rattle.std.specs.Prelude.{◌≡◌, ◌↔◌, IsTrue};
 
 use crate::lines::{Line, LineKind};
@@ -23,6 +23,12 @@ pub fn lines_are_numbered()
 #[tactic(auto, using(crate::proofs::LawLemmas::lost))]
 pub fn lines_are_lost_to_failures()
     ensures { LinesAreLostToFailures }
+{}
+
+/// Where a line of an input within the limit is lost, no line feed was taken.
+#[tactic(auto, using(crate::proofs::LawLemmas::no_feed))]
+pub fn lost_bytes_have_no_feed()
+    ensures { LostBytesHaveNoFeed }
 {}
 
 /// `==` answers whether two kinds of lines are the same.
