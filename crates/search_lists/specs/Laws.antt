@@ -1,6 +1,6 @@
 -- The laws of lists that have more room.
 use Rattle.std.specs.Prelude.{ℕ, ◌<◌, ◌⊎◌}
-use Rattle.open_buckets.specs.OpenLists.{places_at}
+use Rattle.open_buckets.specs.OpenLists.{places_at, IsNextEntry}
 use Rattle.search_lists.specs.Lists.{SearchListsModel, HasMoreRoom}
 use Rattle.search_lists.specs.Orders.{Guide, IsInOrder}
 
@@ -19,3 +19,7 @@ LostPlacesAreNoRoom = (old new : SearchListsModel) (f : ℕ) → (new.closed.roo
 -- what was in order is in order where there is more room
 abbrev pub MoreRoomLeavesTheOrder : Type 0
 MoreRoomLeavesTheOrder = (guide : Guide) (old new : SearchListsModel) → HasMoreRoom old new → IsInOrder guide old → IsInOrder guide new
+
+-- more room leaves the next entry the next one
+abbrev pub MoreRoomLeavesTheNext : Type 0
+MoreRoomLeavesTheNext = (f : ℕ) (entry : ℕ × ℕ) (old new : SearchListsModel) → HasMoreRoom old new → IsNextEntry f entry old.waiting → IsNextEntry f entry new.waiting

@@ -2,6 +2,7 @@
 
 ghost use Rattle.search_lists.specs.Laws.{SameListsLoseNothing, RoomIsMadeTwice};
 ghost use Rattle.search_lists.specs.Laws.{LostPlacesAreNoRoom, MoreRoomLeavesTheOrder};
+ghost use Rattle.search_lists.specs.Laws.{MoreRoomLeavesTheNext};
 
 /// Lists that stay as they are have lost nothing.
 pub fn same_lists_lose_nothing()
@@ -22,4 +23,9 @@ pub fn lost_places_are_no_room()
 #[tactic(auto, using(crate::proofs::OrderLemmas::order_with_room))]
 pub fn more_room_leaves_the_order()
     ensures { MoreRoomLeavesTheOrder }
+{}
+
+/// More room leaves the next entry the next one.
+pub fn more_room_leaves_the_next()
+    ensures { MoreRoomLeavesTheNext }
 {}
