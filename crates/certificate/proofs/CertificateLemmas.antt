@@ -1,25 +1,27 @@
 -- Certificates are read where they are spelled, and what comes before the first fault begins a spelling, or announces groups or rows.
-use Rattle.std.proofs.Common.{◌≡◌, ◌⊎◌, inl, inr, ⊎_elim, ℕ, ◌<◌, ◌≤◌, ◌^◌, List, [], ◌∷◌, ◌++◌, length, Option, Some, None, Ok, Err, refl, sym, ap, subst, ◌∙◌, append-nil, append_assoc, arith}
+use Rattle.std.proofs.Common.{◌≡◌, ◌≢◌, ◌⊎◌, inl, inr, ⊎_elim, ℕ, zero, suc, ◌<◌, ◌≤◌, ◌^◌, List, [], ◌∷◌, ◌++◌, length, Option, Some, None, Ok, Err, refl, sym, ap, subst, ◌∙◌, append-nil, append_assoc, arith}
 use Rattle.std.specs.List.{flat_map, AllByRecursion}
+use Rattle.std.specs.Prelude.{All}
 use Rattle.board.specs.declared.moves.Move.{Move}
 use Rattle.board.specs.Shapes.{ShapeModel, IsShape}
 use Rattle.board.specs.Boards.{BoardModel}
 use Rattle.board.specs.Weights.{WeightsModel}
 use Rattle.pattern_index.specs.Groups.{GroupModel}
 use Rattle.pattern_index.specs.Partitions.{PartitionModel}
+use Rattle.certificate.specs.declared.certificate.TheConstants.{GREATEST_BOUND}
 use Rattle.certificate.specs.declared.certificate.Version.{Version}
 use Rattle.certificate.specs.declared.certificate.Version.TheVariants.{One, Two}
 use Rattle.certificate.specs.Fields.{IsClaimIn, SpellsAllGroups, SpellsAllRows, SpellsBeginning, SpellsBoard, SpellsBody, SpellsClaimed, SpellsCount, SpellsFront, SpellsGroups, SpellsOpening}
 use Rattle.certificate.specs.declared.faults.FormatFault.{FormatFault}
-use Rattle.certificate.specs.declared.faults.FormatFault.TheVariants.{OutOfRange, BytesAfterEnd}
+use Rattle.certificate.specs.declared.faults.FormatFault.TheVariants.{OtherMagic, Truncated, OutOfRange, NotRising, BytesAfterEnd}
 use Rattle.certificate.specs.Certificates.{CertificateModel, Allows, IsSplitOf, IsBoardOf, IsRow, RiseAfter, IsCertificate}
 use Rattle.certificate.specs.Spellings.{claim_of, beginning_text, opening_text, count_text, group_text, groups_text, claimed_text, row_text, body_text, front_text, heading, announcement, spelling, Spells}
-use Rattle.certificate.specs.Readings.{◌>>=◌, next_reading, give, byte_within, byte_in, count, count_in, board, beginning, opening_fields, groups, all_groups, claimed, rows, all_rows, end, body, front, certificate, IsFaultAt}
+use Rattle.certificate.specs.Readings.{Reading, Reader, ◌>>=◌, next_reading, give, byte_within, byte_in, count, count_in, board, beginning, opening_fields, groups, all_groups, claimed, rows, all_rows, end, body, front, certificate, version, claim, costs_of, grid_with, group, letter, letters, number, number_within, plan, HasNoFault, IsFaultAt, IsFirstFormatFault}
 use Rattle.certificate.specs.Laws.{AreBytes, Begins, AnnouncesGroups, AnnouncesRows}
-use Rattle.certificate.proofs.ReaderLemmas.{Law, Opens, Law-iff, Opens-iff, Both, Law-seq, Opens-seq, Known, Law-give, Opens-give, fine, faulty, both_ok, one_fails, field_from, AreBytes-rest}
+use Rattle.certificate.proofs.ReaderLemmas.{Law, Opens, Law-iff, Opens-iff, Both, Law-seq, Opens-seq, Known, Law-give, Opens-give, fine, faulty, both_ok, one_fails, field_from, AreBytes-rest, Lasts, RefusalsLast, Lasts-give, Lasts-seq, Lasts-field, RefusalsLast-seq, fault_is, err_is, not_magic, not_range, not_order, not_after}
 use Rattle.certificate.proofs.TextLemmas.{byte_law, beginning_law, beginning_opens, opening_law, opening_opens, board_law, board_opens, claimed_law, claimed_opens, count_law}
-use Rattle.certificate.proofs.RowLemmas.{RowsText, rows_law, rows_before}
-use Rattle.certificate.proofs.GroupLemmas.{IsGroupHead, all_groups_law, groups_before, no_groups_found, none_apart, split_found}
+use Rattle.certificate.proofs.RowLemmas.{RowsText, rows_law, rows_before, rows_last, rows_missing}
+use Rattle.certificate.proofs.GroupLemmas.{IsGroupHead, all_groups_law, groups_before, groups_missing, no_groups_found, none_apart, split_found}
 
 -- ---- the boards, and what is claimed
 
@@ -458,3 +460,144 @@ before_fault bytes all fault from e =
   where
     never : (c : CertificateModel) (l : List ℕ) → fine c l ≡ faulty CertificateModel fault from → ⊥
     never c l e = absurd cc
+
+-- ---- what is announced and missing
+
+-- fewer rows than are announced are cut off
+rows_announced : (c : CertificateModel) (bytes : List ℕ) → IsCertificate c → AnnouncesRows c bytes → IsFirstFormatFault bytes Truncated
+unfolding certificate all_rows ◌>>=◌
+rows_announced c bytes fits a =
+    let q = rows_missing c.grid None a.count fits.sides tt c.rows a.more fits.rows fits.rising in
+    let text = flat_map row_text c.rows in
+    let first : front (announcement a.count c) ≡ Ok (bare c, count_text a.count ++ text) = front_law.again (bare c) (front_text c) (count_text a.count ++ text) (record { fits = bare_fits c fits; bare = refl; is = refl }) in
+    let second : count (count_text a.count ++ text) ≡ Ok (a.count, text) = count_law.again a.count (count_text a.count) text (record { within = a.few; is = refl }) in
+    let last : List (BoardModel × ℕ) → Reader CertificateModel = λ rs. end >>= λ u. give (record (bare c) { rows = rs }) in (
+      q.0,
+      ap certificate a.is ∙ ap (next_reading (λ (d : CertificateModel). all_rows d.grid >>= λ rs. end >>= λ u. give (record d { rows = rs }))) first
+          ∙ ap (λ (r : Reading ℕ). next_reading last (next_reading (rows c.grid None) r)) second
+          ∙ ap (next_reading last) q.1,
+    )
+
+-- the head of a group that is missing
+head_of : (text bytes : List ℕ) → (bytes ≡ text) ⊎ ((size : ℕ) × (0 < size) × (size ≤ 24) × (bytes ≡ text ++ size ∷ [])) → (head : List ℕ) × IsGroupHead head × (bytes ≡ text ++ head)
+head_of text bytes (inl is) = ([], inl refl, is ∙ sym (append-nil text))
+head_of text bytes (inr (size, some, few, is)) = (size ∷ [], inr (size, some, few, refl), is)
+
+-- fewer groups than are announced are cut off
+groups_announced : (c : CertificateModel) (bytes : List ℕ) → IsCertificate c → AnnouncesGroups c bytes → IsFirstFormatFault bytes Truncated
+unfolding certificate front all_groups ◌>>=◌
+groups_announced c bytes fits a =
+    let grid = c.costs.grid in
+    let gs = c.groups.groups in
+    let sides : IsShape grid = subst (λ (s : ShapeModel). IsShape s) (sym fits.costs.sides) fits.sides in
+    let split = fits.groups.split in
+    let of_grid : All (λ g. g.grid ≡ grid) gs = subst (λ (s : ShapeModel). All (λ (g : GroupModel). g.grid ≡ s) gs) (fits.groups.sides ∙ sym fits.costs.sides) split.of_grid in
+    let h = head_of (heading a.count c) bytes a.is in
+    let q = groups_missing grid [] a.count sides none_apart gs h.0 a.more split.groups of_grid split.apart h.1 in
+    let form : Version × ℕ = (c.version, claim_of c.plan) in
+    let begun = beginning_text c.version (claim_of c.plan) in
+    let opened = opening_text c.costs in
+    let done = flat_map group_text gs in
+    let third : byte_within 0 24 (a.count ∷ (done ++ h.0)) ≡ Ok (a.count, done ++ h.0) = (byte_law 0 24).again a.count (a.count ∷ []) (done ++ h.0) (record { above = omega arith; below = a.few; is = refl }) in
+    let second : opening_fields (opened ++ (a.count ∷ (done ++ h.0))) ≡ Ok (c.costs, a.count ∷ (done ++ h.0)) = opening_law.again c.costs opened (a.count ∷ (done ++ h.0)) (record { rule = fits.costs.rule; is = refl }) in
+    let first : beginning (begun ++ (opened ++ (a.count ∷ (done ++ h.0)))) ≡ Ok (form, opened ++ (a.count ∷ (done ++ h.0))) = beginning_law.again form begun (opened ++ (a.count ∷ (done ++ h.0))) (record { allowed = allowed_claim c.version c.plan fits.claim; is = refl }) in
+    let parts : bytes ≡ begun ++ (opened ++ (a.count ∷ (done ++ h.0))) = h.2 ∙ append_assoc begun (opened ++ (a.count ∷ done)) h.0 ∙ ap (λ (l : List ℕ). begun ++ l) (append_assoc opened (a.count ∷ done) h.0) in
+    let body_after : PartitionModel → Reader CertificateModel = λ split. body c.version (claim_of c.plan) c.costs split in
+    let to_body : List GroupModel → Reader PartitionModel = λ found. give (split_of grid found) in
+    let is : front bytes ≡ Err (Truncated, q.0) =
+    ap front parts ∙ ap (next_reading (λ (f : Version × ℕ). opening_fields >>= λ costs. all_groups costs.grid >>= λ split. body f.0 f.1 costs split)) first
+    ∙ ap (next_reading (λ (costs : WeightsModel). all_groups costs.grid >>= λ split. body c.version (claim_of c.plan) costs split)) second
+    ∙ ap (λ (r : Reading ℕ). next_reading body_after (next_reading (λ (n : ℕ). groups grid [] n >>= to_body) r)) third
+    ∙ ap (λ (r : Reading (List GroupModel)). next_reading body_after (next_reading to_body r)) q.1 in
+    (q.0, ap (next_reading (λ (d : CertificateModel). all_rows d.grid >>= λ rs. end >>= λ u. give (record d { rows = rs }))) is)
+
+pub announced_cut_off : (c : CertificateModel) (bytes : List ℕ) → IsCertificate c → AnnouncesGroups c bytes ⊎ AnnouncesRows c bytes → IsFirstFormatFault bytes Truncated
+announced_cut_off c bytes fits (inl a) = groups_announced c bytes fits a
+announced_cut_off c bytes fits (inr a) = rows_announced c bytes fits a
+
+-- ---- a fault other than that the bytes are cut off stays where more bytes follow
+
+claim_lasts : (v : Version) → Lasts (claim v)
+claim_lasts One = Lasts-give 0
+claim_lasts Two = Lasts-field OutOfRange _ _
+
+beginning_lasts : Lasts beginning
+unfolding beginning
+beginning_lasts = Lasts-seq version _ (Lasts-field OtherMagic _ _) (λ v. Lasts-seq (claim v) _ (claim_lasts v) (λ n. Lasts-give (v, n)))
+
+costs_last : (grid : ShapeModel) (kind : ℕ) → Lasts (costs_of grid kind)
+costs_last grid zero = Lasts-give _
+costs_last grid (suc zero) = Lasts-give _
+costs_last grid (suc (suc kind)) = Lasts-field OutOfRange _ _
+
+opening_lasts : Lasts opening_fields
+unfolding opening_fields
+opening_lasts = Lasts-seq (byte_within 2 5) _ (Lasts-field OutOfRange _ _) (λ rows. Lasts-seq (byte_within 2 5) _ (Lasts-field OutOfRange _ _) (λ cols. Lasts-seq (byte_within 0 2) _ (Lasts-field OutOfRange _ _) (λ kind. costs_last (grid_with rows cols) kind)))
+
+group_lasts : (grid : ShapeModel) (before : List GroupModel) → Lasts (group grid before)
+unfolding group
+group_lasts grid before = Lasts-seq (byte_within 1 24) _ (Lasts-field OutOfRange _ _) (λ n. Lasts-field OutOfRange _ _)
+
+groups_last : (grid : ShapeModel) (before : List GroupModel) (n : ℕ) → Lasts (groups grid before n)
+unfolding groups
+groups_last grid before zero = Lasts-give []
+groups_last grid before (suc n) = Lasts-seq (group grid before) _ (group_lasts grid before) (λ first. Lasts-seq (groups grid (before ++ first ∷ []) n) _ (groups_last grid (before ++ first ∷ []) n) (λ others. Lasts-give (first ∷ others)))
+
+all_groups_last : (grid : ShapeModel) → Lasts (all_groups grid)
+unfolding all_groups
+all_groups_last grid = Lasts-seq (byte_within 0 24) _ (Lasts-field OutOfRange _ _) (λ n. Lasts-seq (groups grid [] n) _ (groups_last grid [] n) (λ found. Lasts-give _))
+
+letters_last : (n : ℕ) → Lasts (letters n)
+unfolding letters
+letters_last zero = Lasts-give []
+letters_last (suc n) = Lasts-seq letter _ (Lasts-field OutOfRange _ _) (λ m. Lasts-seq (letters n) _ (letters_last n) (λ ms. Lasts-give (m ∷ ms)))
+
+plan_lasts : Lasts plan
+unfolding plan
+plan_lasts = Lasts-seq number _ (Lasts-field OutOfRange _ _) letters_last
+
+claimed_lasts : (n : ℕ) → Lasts (claimed n)
+claimed_lasts zero = Lasts-seq number _ (Lasts-field OutOfRange _ _) (λ cost. Lasts-seq plan _ plan_lasts (λ moves. Lasts-give (cost, Some moves)))
+claimed_lasts (suc n) = Lasts-seq (number_within GREATEST_BOUND) _ (Lasts-field OutOfRange _ _) (λ bound. Lasts-give (bound, None))
+
+body_lasts : (v : Version) (n : ℕ) (costs : WeightsModel) (split : PartitionModel) → Lasts (body v n costs split)
+unfolding body
+body_lasts v n costs split = Lasts-seq (board costs.grid) _ (Lasts-field OutOfRange _ _) (λ start. Lasts-seq (board costs.grid) _ (Lasts-field OutOfRange _ _) (λ goal. Lasts-seq (claimed n) _ (claimed_lasts n) (λ found. Lasts-give (bare_of v costs split start goal found))))
+
+front_lasts : Lasts front
+unfolding front
+front_lasts = Lasts-seq beginning _ beginning_lasts (λ form. Lasts-seq opening_fields _ opening_lasts (λ costs. Lasts-seq (all_groups costs.grid) _ (all_groups_last costs.grid) (λ split. body_lasts form.0 form.1 costs split)))
+
+all_rows_last : (grid : ShapeModel) → Lasts (all_rows grid)
+unfolding all_rows
+all_rows_last grid = Lasts-seq count _ (Lasts-field OutOfRange _ _) (λ n. rows_last grid None n)
+
+at_end_lasts : (c : CertificateModel) → RefusalsLast (end >>= λ u. give c)
+unfolding end ◌>>=◌ give
+at_end_lasts c [] more fault from other e = absurd cc
+at_end_lasts c (b ∷ bytes) more fault from other e = λ i. faulty CertificateModel (fault_is CertificateModel BytesAfterEnd fault (b ∷ bytes) from e i) (err_is CertificateModel BytesAfterEnd fault (b ∷ bytes) from e i ++ more)
+
+refusals_last : RefusalsLast certificate
+unfolding certificate
+refusals_last = RefusalsLast-seq front _ front_lasts (λ d. RefusalsLast-seq (all_rows d.grid) _ (all_rows_last d.grid) (λ rs. at_end_lasts (record d { rows = rs })))
+
+-- what begins a spelling has no fault, except that it may be cut off
+pub begun_faultless : (c : CertificateModel) (bytes : List ℕ) → IsCertificate c → Begins (spelling c) bytes → HasNoFault certificate bytes
+unfolding end give
+begun_faultless c bytes fits (after, is) fault (from, e) = by_fault fault e
+  where
+    whole : certificate (bytes ++ after) ≡ fine c []
+    whole = ap certificate (sym is ∙ sym (append-nil (spelling c))) ∙ read_again c [] fits
+
+    never : (f : FormatFault) (l : List ℕ) → fine c [] ≡ faulty CertificateModel f l → ⊥
+    never f l e = absurd cc
+
+    other_fault : (f : FormatFault) → f ≢ Truncated → certificate bytes ≡ faulty CertificateModel f from → ⊥
+    other_fault f other e = never f (from ++ after) (sym whole ∙ refusals_last bytes after f from other e)
+
+    by_fault : (f : FormatFault) → certificate bytes ≡ faulty CertificateModel f from → f ≡ Truncated
+    by_fault Truncated e = refl
+    by_fault OtherMagic e = absurd (other_fault OtherMagic not_magic e)
+    by_fault OutOfRange e = absurd (other_fault OutOfRange not_range e)
+    by_fault NotRising e = absurd (other_fault NotRising not_order e)
+    by_fault BytesAfterEnd e = absurd (other_fault BytesAfterEnd not_after e)

@@ -24,9 +24,9 @@ use Rattle.certificate.specs.Fields.{IsNextGroup, SpellsByte, SpellsTiles, Spell
 use Rattle.certificate.specs.declared.faults.FormatFault.{FormatFault}
 use Rattle.certificate.specs.declared.faults.FormatFault.TheVariants.{OutOfRange}
 use Rattle.certificate.specs.Spellings.{group_text}
-use Rattle.certificate.specs.Readings.{◌>>=◌, give, byte_within, byte_in, are_tiles, rises, shares_none, group_in, tiles, group, groups, all_groups}
+use Rattle.certificate.specs.Readings.{◌>>=◌, next_reading, IsCutOff, give, byte_within, byte_in, are_tiles, rises, shares_none, group_in, tiles, group, groups, all_groups}
 use Rattle.certificate.specs.Laws.{AreBytes}
-use Rattle.certificate.proofs.ReaderLemmas.{Law, Law-iff, Both, Law-seq, Known, Law-give, Law-field, field_from, fine, faulty, one_fails, AreBytes-rest}
+use Rattle.certificate.proofs.ReaderLemmas.{Law, Law-iff, Both, Law-seq, Known, Law-give, Law-field, field_from, field_short, fine, faulty, one_fails, AreBytes-rest}
 use Rattle.certificate.proofs.TextLemmas.{byte_law}
 use Rattle.certificate.proofs.CostLemmas.{not_true}
 
@@ -358,6 +358,31 @@ groups_before grid before (suc n) sides apart bytes all fault from e =
   where
     never : (x : List GroupModel) (l : List ℕ) → fine x l ≡ faulty (List GroupModel) fault from → ⊥
     never x l e = absurd cc
+
+-- ---- groups that are announced and missing
+
+group_missing : (grid : ShapeModel) (before : List GroupModel) (head : List ℕ) → IsGroupHead head → IsCutOff (group grid before) head
+unfolding group ◌>>=◌
+group_missing grid before head (inl nil) = ([], ap (group grid before) nil ∙ ap (next_reading (λ n. tiles grid before n)) (field_short OutOfRange 1 (byte_in 1 24) [] (omega arith)))
+group_missing grid before head (inr (size, some, few, is)) =
+    let first : byte_within 1 24 (size ∷ []) ≡ fine size [] = (byte_law 1 24).again size (size ∷ []) [] (record { above = omega (arith, some); below = few; is = refl }) in
+    ([], ap (group grid before) is ∙ ap (next_reading (λ n. tiles grid before n)) first ∙ field_short OutOfRange size (group_in grid before) [] some)
+
+-- fewer groups than are due are cut off
+pub groups_missing : (grid : ShapeModel) (before : List GroupModel) (n : ℕ) → IsShape grid → AreApart before → (done : List GroupModel) (head : List ℕ) → length done < n → All (λ g. IsGroup g) done → All (λ g. g.grid ≡ grid) done → AreApart (before ++ done) → IsGroupHead head
+    → IsCutOff (groups grid before n) (flat_map group_text done ++ head)
+unfolding groups ◌>>=◌
+groups_missing grid before zero sides apart done head few all of_grid apart' begun = absurd (omega (arith, few))
+groups_missing grid before (suc n) sides apart [] head few all of_grid apart' begun =
+    let q = group_missing grid before head begun in
+    (q.0, ap (next_reading (λ (first : GroupModel). groups grid (before ++ first ∷ []) n >>= λ others. give (first ∷ others))) q.1)
+groups_missing grid before (suc n) sides apart (g ∷ done) head few all of_grid apart' begun =
+    let here = first_group grid before g done all of_grid apart' in
+    let q = groups_missing grid (before ++ g ∷ []) n sides (apart_pushed before g apart here.next.apart) done head (omega (arith, few)) (All-tail (λ (h : GroupModel). IsGroup h) g done all) (All-tail (λ (h : GroupModel). h.grid ≡ grid) g done of_grid)
+    (subst (λ (l : List GroupModel). AreApart l) (sym (append_assoc before (g ∷ []) done)) apart') begun in
+    let text : flat_map group_text (g ∷ done) ++ head ≡ group_text g ++ (flat_map group_text done ++ head) = ap (λ (l : List ℕ). l ++ head) (flat_map-cons group_text g done) ∙ append_assoc (group_text g) (flat_map group_text done) head in
+    let first : group grid before (flat_map group_text (g ∷ done) ++ head) ≡ fine g (flat_map group_text done ++ head) = ap (group grid before) text ∙ (group_law grid before sides).again g (group_text g) (flat_map group_text done ++ head) here in
+    (q.0, ap (next_reading (λ (first : GroupModel). groups grid (before ++ first ∷ []) n >>= λ others. give (first ∷ others))) first ∙ ap (next_reading (λ (others : List GroupModel). give (g ∷ others))) q.1)
 
 -- ---- a group's tiles, sorted, are those that were given, where these rise
 

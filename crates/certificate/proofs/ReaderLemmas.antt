@@ -167,7 +167,7 @@ Law-field {X = X} fault n value S there back = record {
         let front : AreBytes (take n bytes) = AreBytes-front (take n bytes) (drop n bytes) (subst (λ (l : List ℕ). AreBytes l) (sym (take-append-drop n bytes)) all) in
         (take n bytes, back x (take n bytes) front (omega (arith, length-take n bytes)) (v-is ∙ ap (λ (z : X). Some z) p.0), sym (take-append-drop n bytes) ∙ ap (λ (l : List ℕ). take n bytes ++ l) p.1)
 
-err_is : (X : Type 0) (f g : FormatFault) (s t : List ℕ) → faulty X f s ≡ faulty X g t → s ≡ t
+pub err_is : (X : Type 0) (f g : FormatFault) (s t : List ℕ) → faulty X f s ≡ faulty X g t → s ≡ t
 err_is X f g s t e =
     let p : FormatFault × List ℕ = (f, s) in
     let q : FormatFault × List ℕ = (g, t) in
@@ -210,6 +210,93 @@ as_one_from {X = X} reader bytes f from e = at_front (reader bytes) e
     at_front : (r : Reading X) → whole_reading bytes r ≡ Err (f, from) → bytes ≡ from
     at_front (Ok p) e = absurd cc
     at_front (Err g) e = err_is X g.0 f bytes from e
+
+-- ---- what is found stays where more bytes follow, and so does a fault other than that the bytes are cut off
+
+abbrev pub RefusalsLast : {X : Type 0} → Reader X → Type 0
+RefusalsLast {X} reader = (bytes more : List ℕ) (fault : FormatFault) (from : List ℕ) → fault ≢ Truncated → reader bytes ≡ faulty X fault from → reader (bytes ++ more) ≡ faulty X fault (from ++ more)
+
+pub record Lasts {X : Type 0} (reader : Reader X) : Type 0 where
+  pub finds : (bytes more : List ℕ) (x : X) (rest : List ℕ) → reader bytes ≡ fine x rest → reader (bytes ++ more) ≡ fine x (rest ++ more)
+  pub refuses : RefusalsLast reader
+
+pub fault_is : (X : Type 0) (f g : FormatFault) (s t : List ℕ) → faulty X f s ≡ faulty X g t → f ≡ g
+fault_is X f g s t e =
+    let p : FormatFault × List ℕ = (f, s) in
+    let q : FormatFault × List ℕ = (g, t) in
+    let same : p ≡ q = cc in
+    ap (λ (z : FormatFault × List ℕ). z.0) same
+
+pub Lasts-give : {X : Type 0} (x : X) → Lasts (give x)
+unfolding give
+Lasts-give x = record {
+  finds = λ bytes more y rest e. let p = ok_is x y bytes rest e in λ i. fine (p.0 i) (p.1 i ++ more);
+  refuses = λ bytes more fault from other e. absurd cc;
+}
+
+pub RefusalsLast-seq : {X Y : Type 0} (a : Reader X) (k : X → Reader Y) → Lasts a → ((x : X) → RefusalsLast (k x)) → RefusalsLast (a >>= k)
+unfolding ◌>>=◌
+RefusalsLast-seq a k first next bytes more fault from other e =
+    ⊎_elim (λ failed. ap (next_reading k) (first.refuses bytes more fault from other failed))
+    (λ r. ap (next_reading k) (first.finds bytes more r.0.0 r.0.1 r.1) ∙ next r.0.0 r.0.1 more fault from other r.2)
+    (one_fails (a bytes) k (fault, from) e)
+
+pub Lasts-seq : {X Y : Type 0} (a : Reader X) (k : X → Reader Y) → Lasts a → ((x : X) → Lasts (k x)) → Lasts (a >>= k)
+unfolding ◌>>=◌
+Lasts-seq a k first next = record {
+  finds = λ bytes more y rest e. let r = both_ok (a bytes) k (y, rest) e in ap (next_reading k) (first.finds bytes more r.0.0 r.0.1 r.1) ∙ (next r.0.0).finds r.0.1 more y rest r.2;
+  refuses = RefusalsLast-seq a k first (λ x. (next x).refuses);
+}
+
+-- a field that is whole
+field_whole : {X : Type 0} (fault : FormatFault) (n : ℕ) (value : List ℕ → Option X) (bytes more : List ℕ) → n ≤ length bytes → field fault n value (bytes ++ more) ≡ field_reading fault (bytes ++ more) (drop n bytes ++ more) (value (take n bytes))
+unfolding field
+field_whole fault n value bytes more many =
+    let text = take n bytes in
+    let rest = drop n bytes in
+    let len : length text ≡ n = omega (arith, length-take n bytes, many) in
+    let long : ltb (length (text ++ (rest ++ more))) n ≡ false = le-ltb _ _ (omega (arith, length-append text (rest ++ more), len)) in
+    let parts : bytes ++ more ≡ text ++ (rest ++ more) = ap (λ (l : List ℕ). l ++ more) (sym (take-append-drop n bytes)) ∙ append_assoc text rest more in
+    ap (field fault n value) parts ∙ (rw (long, take_at text (rest ++ more) n len, drop_at text (rest ++ more) n len) refl) ∙ ap (λ (l : List ℕ). field_reading fault l (rest ++ more) (value text)) (sym parts)
+
+pub Lasts-field : {X : Type 0} (fault : FormatFault) (n : ℕ) (value : List ℕ → Option X) → Lasts (field fault n value)
+unfolding field
+Lasts-field {X = X} fault n value = record {
+  finds = λ bytes more x rest e. there bytes more x rest (ltb (length bytes) n) (value (take n bytes)) refl refl e;
+  refuses = λ bytes more f from other e. wrong bytes more f from other (ltb (length bytes) n) (value (take n bytes)) refl refl e;
+}
+  where
+    there : (bytes more : List ℕ) (x : X) (rest : List ℕ) (short : Bool) (v : Option X) → ltb (length bytes) n ≡ short → value (take n bytes) ≡ v → cond short (Err (Truncated, bytes)) (field_reading fault bytes (drop n bytes) v) ≡ fine x rest
+        → field fault n value (bytes ++ more) ≡ fine x (rest ++ more)
+    there bytes more x rest true v short-is v-is e = absurd cc
+    there bytes more x rest false None short-is v-is e = absurd cc
+    there bytes more x rest false (Some y) short-is v-is e =
+        let p = ok_is y x (drop n bytes) rest e in
+        field_whole fault n value bytes more (ltb-false _ _ short-is) ∙ ap (field_reading fault (bytes ++ more) (drop n bytes ++ more)) v-is ∙ (λ i. fine (p.0 i) (p.1 i ++ more))
+
+    wrong : (bytes more : List ℕ) (f : FormatFault) (from : List ℕ) → f ≢ Truncated → (short : Bool) (v : Option X) → ltb (length bytes) n ≡ short → value (take n bytes) ≡ v → cond short (Err (Truncated, bytes)) (field_reading fault bytes (drop n bytes) v) ≡ faulty X f from
+        → field fault n value (bytes ++ more) ≡ faulty X f (from ++ more)
+    wrong bytes more f from other true v short-is v-is e = absurd (other (sym (fault_is X Truncated f bytes from e)))
+    wrong bytes more f from other false None short-is v-is e =
+        field_whole fault n value bytes more (ltb-false _ _ short-is) ∙ ap (field_reading fault (bytes ++ more) (drop n bytes ++ more)) v-is ∙ (λ i. faulty X (fault_is X fault f bytes from e i) (err_is X fault f bytes from e i ++ more))
+    wrong bytes more f from other false (Some x) short-is v-is e = absurd cc
+
+pub Lasts-as_one : {X : Type 0} (reader : Reader X) → Lasts reader → Lasts (as_one reader)
+unfolding as_one
+Lasts-as_one {X = X} reader l = record {
+  finds = λ bytes more x rest e. there bytes more x rest (reader bytes) refl e;
+  refuses = λ bytes more f from other e. wrong bytes more f from other (reader bytes) refl e;
+}
+  where
+    there : (bytes more : List ℕ) (x : X) (rest : List ℕ) (r : Reading X) → reader bytes ≡ r → whole_reading bytes r ≡ fine x rest → whole_reading (bytes ++ more) (reader (bytes ++ more)) ≡ fine x (rest ++ more)
+    there bytes more x rest (Ok p) is e = ap (whole_reading (bytes ++ more)) (l.finds bytes more x rest (is ∙ e))
+    there bytes more x rest (Err g) is e = absurd cc
+
+    wrong : (bytes more : List ℕ) (f : FormatFault) (from : List ℕ) → f ≢ Truncated → (r : Reading X) → reader bytes ≡ r → whole_reading bytes r ≡ faulty X f from → whole_reading (bytes ++ more) (reader (bytes ++ more)) ≡ faulty X f (from ++ more)
+    wrong bytes more f from other (Ok p) is e = absurd cc
+    wrong bytes more f from other (Err g) is e =
+        let same = fault_is X g.0 f bytes from e in
+        ap (whole_reading (bytes ++ more)) (l.refuses bytes more g.0 g.1 (λ t. other (sym same ∙ t)) is) ∙ (λ i. faulty X (same i) (err_is X g.0 f bytes from e i ++ more))
 
 -- ---- a field of a source: what was taken of it, and what reading the bytes that were left gives
 

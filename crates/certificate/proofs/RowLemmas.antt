@@ -9,16 +9,17 @@ use Rattle.board.specs.Shapes.{ShapeModel, IsShape, cell_count}
 use Rattle.board.specs.Boards.{BoardModel, IsBoard}
 use Rattle.board.specs.Keys.{key_of, Precedes}
 use Rattle.board.proofs.KeyLemmas.{packed_in_order, tiles_small}
+use Rattle.board.proofs.NeighbourLemmas.{cells_above}
 use Rattle.board.specs.declared.costs.TheConstants.{GREATEST_COST}
 use Rattle.board.specs.Laws.{KeysAreInOrder}
 use Rattle.certificate.specs.Fields.{SpellsBoard, SpellsNumber, SpellsRow}
 use Rattle.certificate.specs.declared.faults.FormatFault.{FormatFault}
-use Rattle.certificate.specs.declared.faults.FormatFault.TheVariants.{NotRising}
+use Rattle.certificate.specs.declared.faults.FormatFault.TheVariants.{NotRising, OutOfRange, Truncated}
 use Rattle.certificate.specs.Certificates.{Follows, IsBoardOf, IsRow, RiseAfter}
 use Rattle.certificate.specs.Spellings.{number_text, row_text}
-use Rattle.certificate.specs.Readings.{◌>>=◌, give, number, board, may_follow, row_order, row, rows}
+use Rattle.certificate.specs.Readings.{Reading, ◌>>=◌, next_reading, whole_reading, as_one, IsCutOff, give, number, board, board_from, may_follow, row_order, row, rows}
 use Rattle.certificate.specs.Laws.{AreBytes}
-use Rattle.certificate.proofs.ReaderLemmas.{Law, Law-iff, Both, Law-seq, Known, Law-give, Law-as_one, as_one_from, fine, faulty, one_fails, AreBytes-rest}
+use Rattle.certificate.proofs.ReaderLemmas.{Law, Law-iff, Both, Law-seq, Known, Law-give, Law-as_one, as_one_from, field_short, Lasts, Lasts-give, Lasts-seq, Lasts-field, Lasts-as_one, fault_is, err_is, fine, faulty, one_fails, AreBytes-rest}
 use Rattle.certificate.proofs.TextLemmas.{number_law, board_law}
 
 -- ---- the text of rows, with the laws of its reader
@@ -164,6 +165,51 @@ rows_before grid before (suc n) sides is bytes all fault from e =
   where
     never : (x : List (BoardModel × ℕ)) (l : List ℕ) → fine x l ≡ faulty (List (BoardModel × ℕ)) fault from → ⊥
     never x l e = absurd cc
+
+-- ---- what is found stays where more bytes follow
+
+order_lasts : (before : Option BoardModel) (r : BoardModel × ℕ) → Lasts (row_order before r)
+unfolding row_order give
+order_lasts before r = record {
+  finds = λ bytes more x rest e. there bytes more x rest (may_follow before r.0) e;
+  refuses = λ bytes more f from other e. wrong bytes more f from (may_follow before r.0) e;
+}
+  where
+    there : (bytes more : List ℕ) (x : BoardModel × ℕ) (rest : List ℕ) (b : Bool) → cond b (fine r bytes) (faulty (BoardModel × ℕ) NotRising bytes) ≡ fine x rest → cond b (fine r (bytes ++ more)) (faulty (BoardModel × ℕ) NotRising (bytes ++ more)) ≡ fine x (rest ++ more)
+    there bytes more x rest true e = (Lasts-give r).finds bytes more x rest e
+    there bytes more x rest false e = absurd cc
+
+    wrong : (bytes more : List ℕ) (f : FormatFault) (from : List ℕ) (b : Bool) → cond b (fine r bytes) (faulty (BoardModel × ℕ) NotRising bytes) ≡ faulty (BoardModel × ℕ) f from → cond b (fine r (bytes ++ more)) (faulty (BoardModel × ℕ) NotRising (bytes ++ more)) ≡ faulty (BoardModel × ℕ) f (from ++ more)
+    wrong bytes more f from true e = absurd cc
+    wrong bytes more f from false e = λ i. faulty (BoardModel × ℕ) (fault_is (BoardModel × ℕ) NotRising f bytes from e i) (err_is (BoardModel × ℕ) NotRising f bytes from e i ++ more)
+
+row_lasts : (grid : ShapeModel) (before : Option BoardModel) → Lasts (row grid before)
+unfolding row
+row_lasts grid before = Lasts-as_one _ (Lasts-seq (board grid) _ (Lasts-field OutOfRange _ _) (λ b. Lasts-seq number _ (Lasts-field OutOfRange _ _) (λ g. order_lasts before (b, g))))
+
+pub rows_last : (grid : ShapeModel) (before : Option BoardModel) (n : ℕ) → Lasts (rows grid before n)
+unfolding rows
+rows_last grid before zero = Lasts-give []
+rows_last grid before (suc n) = Lasts-seq (row grid before) _ (row_lasts grid before) (λ first. Lasts-seq (rows grid (Some first.0) n) _ (rows_last grid (Some first.0) n) (λ others. Lasts-give (first ∷ others)))
+
+-- ---- rows that are announced and missing
+
+row_missing : (grid : ShapeModel) (before : Option BoardModel) → IsShape grid → row grid before [] ≡ faulty (BoardModel × ℕ) Truncated []
+unfolding row as_one ◌>>=◌
+row_missing grid before sides =
+    ap (λ (r : Reading BoardModel). whole_reading [] (next_reading (λ b. number >>= λ g. row_order before (b, g)) r)) (field_short OutOfRange (cell_count grid) (board_from grid) [] (cells_above grid sides))
+
+-- fewer rows than are due are cut off
+pub rows_missing : (grid : ShapeModel) (before : Option BoardModel) (n : ℕ) → IsShape grid → IsBefore grid before → (done : List (BoardModel × ℕ)) → length done < n → AllByRecursion (IsRow grid) done → RiseAfter before done
+    → IsCutOff (rows grid before n) (flat_map row_text done)
+unfolding rows ◌>>=◌
+rows_missing grid before zero sides is done few fit rising = absurd (omega (arith, few))
+rows_missing grid before (suc n) sides is [] few fit rising = ([], ap (next_reading (λ (first : BoardModel × ℕ). rows grid (Some first.0) n >>= λ others. give (first ∷ others))) (row_missing grid before sides))
+rows_missing grid before (suc n) sides is (r ∷ done) few fit rising =
+    let q = rows_missing grid (Some r.0) n sides fit.0.board done (omega (arith, few)) fit.1 rising.1 in
+    let first : row grid before (flat_map row_text (r ∷ done)) ≡ fine r (flat_map row_text done) =
+    ap (row grid before) (flat_map-cons row_text r done) ∙ (row_law grid before sides is).again r (row_text r) (flat_map row_text done) (record { row = fit.0; follows = rising.0; is = refl }) in
+    (q.0, ap (next_reading (λ (first : BoardModel × ℕ). rows grid (Some first.0) n >>= λ others. give (first ∷ others))) first ∙ ap (next_reading (λ (others : List (BoardModel × ℕ)). give (r ∷ others))) q.1)
 
 -- ---- boards that rise by key, each with a cost, are rows of a certificate
 

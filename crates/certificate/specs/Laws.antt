@@ -60,6 +60,14 @@ FaultsComeFirst =
     (bytes : List ℕ) (fault : FormatFault) (from : List ℕ) → AreBytes bytes → IsFaultAt bytes fault from
     → (before : List ℕ) × (c : CertificateModel) × (bytes ≡ before ++ from) × IsCertificate c × (Begins (spelling c) before ⊎ AnnouncesGroups c before ⊎ AnnouncesRows c before)
 
+-- what begins a spelling has no fault, except that it may be cut off
+abbrev pub BeginningsHaveNoFault : Type 0
+BeginningsHaveNoFault = (c : CertificateModel) (bytes : List ℕ) → IsCertificate c → Begins (spelling c) bytes → HasNoFault certificate bytes
+
+-- what announces more groups or rows than are there is cut off, and has no other fault
+abbrev pub AnnouncementsAreCutOff : Type 0
+AnnouncementsAreCutOff = (c : CertificateModel) (bytes : List ℕ) → IsCertificate c → AnnouncesGroups c bytes ⊎ AnnouncesRows c bytes → IsFirstFormatFault bytes Truncated
+
 -- no spelling begins another one
 abbrev pub NoneBeginsAnother : Type 0
 NoneBeginsAnother = (c d : CertificateModel) (bytes more : List ℕ) → Spells c bytes → Spells d (bytes ++ more) → (more ≡ []) × (d ≡ c)

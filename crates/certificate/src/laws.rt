@@ -4,7 +4,8 @@ ghost use Rattle.certificate.specs.Laws.{ReadingIsSpelling, SpelledOrFaulty, Not
 ghost use Rattle.certificate.specs.Laws.{OneFirstFault, FaultsComeFirst, NoneBeginsAnother};
 ghost use Rattle.certificate.specs.Laws.{OneCertificate, OneSpelling, AnswersTellOfBytes};
 ghost use Rattle.certificate.specs.Laws.{FaultlessIsSpelledOrCutOff, FaultsShowLast};
-ghost use Rattle.certificate.specs.Laws.{FailuresAreOfTheSource};
+ghost use Rattle.certificate.specs.Laws.{FailuresAreOfTheSource, AnnouncementsAreCutOff};
+ghost use Rattle.certificate.specs.Laws.{BeginningsHaveNoFault};
 ghost use Rattle.std.specs.Prelude.{◌≡◌, ◌↔◌, IsTrue};
 
 use crate::faults::{FormatFault, ReadFault, WriteFault};
@@ -21,10 +22,13 @@ pub fn reading_is_spelling()
 {}
 
 /// The bytes before the first faulty field begin some spelling, or they announce more groups or
-/// rows than are there.
+/// rows than are there. What begins a spelling has no fault, except that it may be cut off. What
+/// announces more than is there is cut off.
 #[tactic(auto, using(crate::proofs::CertificateLemmas::before_fault))]
 pub fn faults_come_first()
-    ensures { FaultsComeFirst }
+    ensures before { FaultsComeFirst }
+    ensures begun { BeginningsHaveNoFault }
+    ensures announced { AnnouncementsAreCutOff }
 {}
 
 /// No spelling begins another one.
