@@ -189,7 +189,7 @@ halt_given want rows listed =
     )
 
 abbrev refused_steps : List Step
-refused_steps = Settle 0 ∷ Deliver 0 1 ∷ Rest 0 ∷ Draw 0 ∷ Grant 0 ∷ Expand 0 ∷ Expand 1 ∷ Announce 1 ∷ Announce 0 ∷ Send 0 1 ∷ Send 0 0 ∷ Halt 2 Limit ∷ Rest 1 ∷ []
+refused_steps = Settle 0 ∷ Deliver 0 1 ∷ Rest 0 ∷ Draw 0 ∷ Grant 0 ∷ Expand 0 ∷ Expand 1 ∷ Announce 1 ∷ Announce 0 ∷ Send 0 1 ∷ Send 0 0 ∷ Send 0 2 ∷ Deliver 2 0 ∷ Expand 2 ∷ Halt 2 Limit ∷ Rest 1 ∷ []
 
 pub refusals_given : RefusalsAreGiven
 unfolding sparse_of

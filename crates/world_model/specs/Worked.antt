@@ -111,6 +111,9 @@ RefusalsAreGiven =
     ∷ not_ok (Announce 0) NothingToAnnounce
     ∷ not_ok (Send 0 1) NothingThere
     ∷ not_ok (Send 0 0) NoSuchWorker
+    ∷ not_ok (Send 0 2) NoSuchWorker
+    ∷ not_ok (Deliver 2 0) NoSuchWorker
+    ∷ not_ok (Expand 2) NoSuchWorker
     ∷ not_ok (Halt 2 Limit) NoSuchWorker
     ∷ not_ok (Rest 1) NotIdle
     ∷ [])
