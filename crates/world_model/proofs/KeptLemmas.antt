@@ -1,6 +1,6 @@
 -- Worlds that runs reach are kept, and what quiet and kept worlds give.
-use Rattle.std.proofs.Common.{◌≡◌, ◌≢◌, ◌⊎◌, ℕ, ◌<◌, ◌≤◌, List, [], length, refl, sym, ap, ◌∙◌, subst, inl, inr, arith, Option, Some, None, eqb, ◌*◌, true, false, ◌∷◌, ⊎_elim}
-use Rattle.std.specs.Prelude.{All, slice_get, sum_by, Vec, Contains, fold}
+use Rattle.std.proofs.Common.{◌≡◌, ◌≢◌, ◌⊎◌, ℕ, ◌+◌, ◌<◌, ◌≤◌, List, [], length, refl, sym, ap, ◌∙◌, subst, inl, inr, arith, Option, Some, None, eqb, ◌*◌, true, false, ◌∷◌, ⊎_elim}
+use Rattle.std.specs.Prelude.{All, slice_get, sum_by, Vec, Contains, fold, min}
 use Rattle.std.specs.declared.alloc.Global.{Global}
 use Rattle.std.proofs.lemmas.List.Sums.{sum_by-le}
 use Rattle.std.proofs.lemmas.Option.{slice_get_within, get_or_from_slice_get}
@@ -22,8 +22,9 @@ use Rattle.outcomes.specs.declared.outcome.Outcome.TheVariants.{Optimal, Unsolva
 use Rattle.world_model.specs.declared.parts.Item.{Item}
 use Rattle.world_model.specs.declared.steps.Stop.{Stop}
 use Rattle.world_model.specs.declared.steps.Stop.TheVariants.{Quiet, Limit, Memory, Start}
+use Rattle.world_model.specs.Costs.{IsLeastWith, lesser}
 use Rattle.world_model.specs.Frontiers.{IsInFrontier, IsLowest, IsReached}
-use Rattle.world_model.specs.KeptLaws.{BoundRowsProve, BoundsAreGiven, CausesAreTheStops, KeptWorldsAreNeverCut, KeptWorldsAreQuiet, KeptWorldsHaveBegun, KnowsGoal, LimitBoundsAreSpent, MemoryBoundsAreWanted, QuietWorldsAreAtRest, RowsAreLeftOutForMemory, RunsStayWithinLimits, UnknownGoalsWantNoMemory, IsWithinReach, PlansAreWithinReach}
+use Rattle.world_model.specs.KeptLaws.{BoundRowsProve, BoundsAreGiven, CausesAreTheStops, KeptWorldsAreNeverCut, KeptWorldsAreQuiet, KeptWorldsHaveBegun, KnowsGoal, LimitBoundsAreSpent, MemoryBoundsAreWanted, QuietWorldsAreAtRest, RowsAreLeftOutForMemory, RunsStayWithinLimits, UnknownGoalsWantNoMemory, IsWithinReach, PlansAreWithinReach, BoundsAreHigh, FirstMovesAreKnown, PlansCostNoMore}
 use Rattle.world_model.specs.Outcomes.{AreRowsFor, AsksForMemory, IsAloneAt, IsBounded, IsBoundOf, IsFollowedBack, IsGiven, IsStoppedAt, cause_of}
 use Rattle.world_model.specs.Quiet.{IsKeptAt, IsQuiet, HasBegun, IsKept}
 use Rattle.world_model.specs.Workers.{Lane, WorkerState, KnowsAs, Packet, Role, packet_for}
@@ -281,6 +282,39 @@ plans_within = (
   λ w cost plan rows given. within_reach w given.0 given.1 cost plan given.3 given.4.1,
   λ w bound best cause given. beside w bound best cause given.0 given.1 given.3 given.4,
 )
+
+pub plans_cost : PlansCostNoMore
+plans_cost w cost plan within = within.2
+
+pub first_moves : FirstMovesAreKnown
+first_moves w b q m plan by = by
+
+-- the smaller of two least numbers is at least what both are
+lesser_high : (P Q : ℕ → Type 0) (x y : Option ℕ) (m n : ℕ) → lesser x y ≡ Some m → IsLeastWith P x → IsLeastWith Q y → ((k : ℕ) → P k → n ≤ k) → ((k : ℕ) → Q k → n ≤ k) → n ≤ m
+lesser_high P Q None None m n is p q above above' = absurd (let e : ◌≡◌ {A = Option ℕ} None (Some m) = is in cc)
+lesser_high P Q None (Some b) m n is p q above above' = let e : b ≡ m = cc in let le = above' b q.0 in omega arith
+lesser_high P Q (Some a) None m n is p q above above' = let e : a ≡ m = cc in let le = above a p.0 in omega arith
+lesser_high P Q (Some a) (Some b) m n is p q above above' = let e : min a b ≡ m = cc in let le = above a p.0 in let le' = above' b q.0 in omega arith
+
+module _ (w : WorldState) (lowest reached : Option ℕ) (is_lowest : IsLowest w lowest) (is_reached : IsReached w reached) where
+  bound_high : (bound : ℕ) → IsBoundOf (end_at w lowest reached) bound → (w.task.sum w.task.start ≤ bound) × ((n : ℕ) → ((b : BoardModel) (cost : ℕ) → IsInFrontier w b cost → n ≤ cost + w.task.sum b) → ((known : Known) → Knows w (w.owner w.task.goal) w.task.goal known → n ≤ known.cost) → n ≤ bound)
+  bound_high bound is = (
+    let e = is.2 in omega arith,
+    λ n frontier goal.
+        let le : n ≤ is.0 =
+        lesser_high (λ f. (b : BoardModel) × (cost : ℕ) × IsInFrontier w b cost × (f ≡ cost + w.task.sum b))
+        (λ cost. (known : Known) × Knows w (w.owner w.task.goal) w.task.goal known × (known.cost ≡ cost))
+        lowest reached is.0 n is.1 is_lowest is_reached (λ k h. let le' = frontier h.0 h.1 h.2 in omega (arith, h.3)) (λ k h. let le' = goal h.0 h.1 in omega (arith, h.2)) in
+        let e = is.2 in omega arith,
+  )
+
+  bound_in : (bound : ℕ) (best : Option (ℕ × Vec Move Global)) (cause : Cause) → IsStoppedAt (end_at w lowest reached) bound best cause ⊎ IsAloneAt (end_at w lowest reached) bound best cause → IsBoundOf (end_at w lowest reached) bound
+  bound_in bound None cause (inl stopped) = stopped.0
+  bound_in bound (Some best) cause (inl stopped) = stopped.0
+  bound_in bound best cause (inr alone) = alone.0
+
+pub bounds_high : BoundsAreHigh
+bounds_high w bound best cause given = bound_high w given.0 given.1 given.2 given.3 bound (bound_in w given.0 given.1 given.2 given.3 bound best cause given.4)
 
 -- ---- in a run nothing has happened yet, or the start is expanded; so a world that it reaches is kept
 

@@ -1,9 +1,10 @@
 -- What steps leave alone, what they do last, and what runs are.
 use Rattle.std.proofs.Common.{◌≡◌, ◌≢◌, ℕ, ◌+◌, ◌<◌, ◌≤◌, true, false, List, [], ◌∷◌, ◌++◌, refl, sym, ap, ◌∙◌, subst, inl, inr, ⊎_elim, arith, Option, Some, None, replicate}
-use Rattle.std.specs.Prelude.{◌↔◌, ⊤, All, slice_get}
+use Rattle.std.specs.Prelude.{◌↔◌, ⊤, All, get_or, slice_get}
 use Rattle.std.specs.FinMap as map
 use Rattle.std.proofs.lemmas.Bool.{cases_lt}
-use Rattle.std.proofs.lemmas.List.Elements.{All-set}
+use Rattle.std.proofs.lemmas.List.Elements.{All-get_or, All-set}
+use Rattle.std.proofs.lemmas.Option.{slice_get_within, get_or_from_slice_get}
 use Rattle.memory.specs.declared.OutOfMemory.{OutOfMemory}
 use Rattle.board.specs.Boards.{BoardModel}
 use Rattle.search_keys.specs.SearchKeys.{search_key}
@@ -20,7 +21,7 @@ use Rattle.world_model.specs.Books.{BookState}
 use Rattle.world_model.specs.Costs.{IsNotBelow, limit_of}
 use Rattle.world_model.specs.Expansions.{expansion, successor_items, with_closure}
 use Rattle.world_model.specs.Knowledge.{relaxation}
-use Rattle.world_model.specs.StepLaws.{BooksAreLeft, BookStepsAloneUseIt, FloorsAreHigh, HasHighFloors, LanesAreLeft, LanesHaveTwoEnds, LeastIsExpanded, MemoryIsLast, OthersAreLeft, RestsKeepTheFloor, RunsAreJoined, RunsAreOfSteps, UsesBook, UsesLane, worker_of_step}
+use Rattle.world_model.specs.StepLaws.{BooksAreLeft, BookStepsAloneUseIt, FloorsAreHigh, HasHighFloors, HighFloorsReachTheLimit, LanesAreLeft, LanesHaveTwoEnds, LeastIsExpanded, MemoryIsLast, OthersAreLeft, RestsKeepTheFloor, RunsAreJoined, RunsAreOfSteps, UsesBook, UsesLane, worker_of_step}
 use Rattle.world_model.specs.Steps.{ByWorker, Ends, IsRun, Next, OnBook, OnLane, lane_ends, with_worker}
 use Rattle.world_model.specs.Turns.{Turn, turn}
 use Rattle.world_model.specs.WorkerSteps.{AtLane, DeliverStep, ExpandStep, SendStep, SettleStep}
@@ -190,7 +191,7 @@ module _ (role : Role) (x : WorkerState) (b : BoardModel) (before after : Known)
       (all_known role offers (with_closure x step.board step.known) (search_key b))
 
 pub least_expanded : LeastIsExpanded
-least_expanded role it b before after step opens at closed = split (expand_cases role it step)
+least_expanded role it b before after step opens at closed = let h = split (expand_cases role it step) in (h.0, h.1, h.2, λ c known is. h.0.least c known is)
   where
     split : Cases it (Expands role it.before it.after) → IsNext role.task it.before b before × (before.cost + role.task.sum b < limit_of it.before.best) × (it.answer ≡ None)
     split (inl out) = absurd (open_then role it.before b before after opens closed (subst (λ (z : WorkerState). map.get z.known (search_key b) ≡ Some after) out.1.1 at))
@@ -389,6 +390,11 @@ steps_high step it next high = split (next_cases step it next)
     split : Cases it (Accepts step it.before it.after) → HasHighFloors it.after.book
     split (inl out) = same_high it.before.book it.after.book (ap book_of out.1.1) high
     split (inr done) = accepts_high step it.before it.after done.1 high
+
+pub floors_reach : HighFloorsReachTheLimit
+floors_reach book i floor high at =
+    let there : IsNotBelow (get_or book.floors i None) (Some (limit_of book.best)) = All-get_or (λ f. IsNotBelow f (Some (limit_of book.best))) book.floors i None (slice_get_within book.floors i (Some floor) at) high in
+    subst (λ (f : Option ℕ). IsNotBelow f (Some (limit_of book.best))) (get_or_from_slice_get book.floors i (Some floor) None at) there
 
 pub floors_high : FloorsAreHigh
 floors_high = (λ job via. opening_high job.count (limit_of None), steps_high)

@@ -1,10 +1,11 @@
 -- The laws of worlds whose outcome is a run's own: what quiet and kept worlds give, and which cause a bound has.
-use Rattle.std.specs.Prelude.{◌≡◌, ◌≢◌, ◌⊎◌, ℕ, ◌+◌, ◌*◌, ◌-◌, ◌^◌, ◌≤◌, ◌<◌, false, List, [], length, Contains, Vec, Option, Some, None, slice_get}
+use Rattle.std.specs.Prelude.{◌≡◌, ◌≢◌, ◌⊎◌, ℕ, ◌+◌, ◌*◌, ◌-◌, ◌^◌, ◌≤◌, ◌<◌, false, List, [], ◌∷◌, length, Contains, Vec, Option, Some, None, slice_get}
 use Rattle.std.specs.declared.alloc.Global.{Global}
 use Rattle.memory.specs.declared.OutOfMemory.{OutOfMemory}
 use Rattle.board.specs.declared.costs.TheConstants.{GREATEST_COST}
 use Rattle.board.specs.declared.moves.Move.{Move}
 use Rattle.board.specs.Boards.{BoardModel}
+use Rattle.board.specs.Moves.{Moves}
 use Rattle.board.specs.Plans.{Leads}
 use Rattle.board.specs.Rows.{Proves, IsLowerBound}
 use Rattle.outcomes.specs.declared.outcome.Cause.{Cause}
@@ -95,6 +96,17 @@ BoundsAreGiven =
     → IsGiven w (Bounded bound best cause rows)
     → IsBounded w bound best cause
 
+-- the bound is at least the start's sum, and at least each n that no board of the frontier is below, nor the cost at which the goal is known
+abbrev pub BoundsAreHigh : Type 0
+BoundsAreHigh =
+    (w : WorldState) (bound : ℕ) (best : Option (ℕ × Vec Move Global)) (cause : Cause)
+    → IsBounded w bound best cause
+    → (w.task.sum w.task.start ≤ bound)
+    × ((n : ℕ)
+    → ((b : BoardModel) (cost : ℕ) → IsInFrontier w b cost → n ≤ cost + w.task.sum b)
+    → ((known : Known) → Knows w (w.owner w.task.goal) w.task.goal known → n ≤ known.cost)
+    → n ≤ bound)
+
 -- the goal's owner knows it
 abbrev pub KnowsGoal : WorldState → Type 0
 KnowsGoal w = (known : Known) × Knows w (w.owner w.task.goal) w.task.goal known
@@ -166,6 +178,13 @@ LastMovesLeadBack =
     → Knows w i b known
     → (plan : List Move) × (cost : ℕ) × Leads w.task.rule w.task.start plan b cost × (cost ≤ known.cost) × IsByLastMoves w w.task.start plan b
 
+-- the first of such moves leads to a board that its owner knows with that last move, and the others go on from there
+abbrev pub FirstMovesAreKnown : Type 0
+FirstMovesAreKnown =
+    (w : WorldState) (b q : BoardModel) (m : Move) (plan : List Move)
+    → IsByLastMoves w b (m ∷ plan) q
+    → (next : BoardModel) × (c : ℕ) × (known : Known) × Moves w.task.rule b m next c × Knows w (w.owner next) next known × (known.via ≡ m) × IsByLastMoves w next plan q
+
 -- the plan leads to the goal at this cost by last moves, and the goal is known to its owner at no less
 abbrev pub IsWithinReach : WorldState → ℕ → Vec Move Global → Type 0
 IsWithinReach w cost plan =
@@ -178,6 +197,10 @@ abbrev pub PlansAreWithinReach : Type 0
 PlansAreWithinReach =
     ((w : WorldState) (cost : ℕ) (plan : Vec Move Global) (rows : Vec (BoardModel × ℕ) Global) → IsGiven w (Optimal cost plan rows) → IsWithinReach w cost plan)
     × ((w : WorldState) (bound : ℕ) (best : ℕ × Vec Move Global) (cause : Cause) → IsBounded w bound (Some best) cause → IsWithinReach w best.0 best.1)
+
+-- and costs no more than that at which the goal's owner knows it
+abbrev pub PlansCostNoMore : Type 0
+PlansCostNoMore = (w : WorldState) (cost : ℕ) (plan : Vec Move Global) → IsWithinReach w cost plan → (known : Known) × Knows w (w.owner w.task.goal) w.task.goal known × (cost ≤ known.cost)
 
 -- The credit of each world that a run reaches is at most 2^63 plus what is drawn at once. So no purse is the greatest u64 there, and no
 -- packet is refused for a full purse.

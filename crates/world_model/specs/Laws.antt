@@ -4,7 +4,7 @@ use Rattle.std.specs.declared.alloc.Global.{Global}
 use Rattle.memory.specs.declared.OutOfMemory.{OutOfMemory}
 use Rattle.board.specs.declared.moves.Move.{Move}
 use Rattle.board.specs.Boards.{BoardModel}
-use Rattle.board.specs.Plans.{NothingBelow}
+use Rattle.board.specs.Plans.{Leads, NothingBelow}
 use Rattle.board.specs.Rows.{IsLowerBound}
 use Rattle.outcomes.specs.declared.outcome.Cause.{Cause}
 use Rattle.outcomes.specs.declared.outcome.Cause.TheVariants.{Memory as ForMemory, Cost as ForCost, Cut as ForCut}
@@ -107,7 +107,13 @@ OpeningsAreSound =
 
 -- a plan leads to each board that a sound world knows, at no more than the cost that is known: last moves can be followed back
 abbrev pub KnownBoardsAreReached : Type 0
-KnownBoardsAreReached = (w : WorldState) → IsShaped w → IsSound w → (i : ℕ) (b : BoardModel) (known : Known) → Knows w i b known → IsLedTo w b known.cost
+KnownBoardsAreReached =
+    (w : WorldState)
+    → IsShaped w
+    → IsSound w
+    → (i : ℕ) (b : BoardModel) (known : Known)
+    → Knows w i b known
+    → (plan : List Move) × (k : ℕ) × Leads w.task.rule w.task.start plan b k × (k ≤ known.cost)
 
 -- and to each that is under way
 abbrev pub ItemsAreReached : Type 0

@@ -1,5 +1,5 @@
 -- The laws of steps: that each has one answer and leaves one world, and what it leaves alone.
-use Rattle.std.specs.Prelude.{◌≡◌, ◌≢◌, ◌↔◌, ◌⊎◌, ⊤, ℕ, ◌<◌, ◌+◌, true, List, [], ◌∷◌, ◌++◌, All, Contains, Option, Some, None, slice_get}
+use Rattle.std.specs.Prelude.{◌≡◌, ◌≢◌, ◌↔◌, ◌⊎◌, ⊤, ℕ, ◌<◌, ◌≤◌, ◌+◌, true, List, [], ◌∷◌, ◌++◌, All, Contains, Option, Some, None, slice_get}
 use Rattle.memory.specs.declared.OutOfMemory.{OutOfMemory}
 use Rattle.board.specs.declared.moves.Move.{Move}
 use Rattle.board.specs.Weights.{WeightsModel}
@@ -102,7 +102,8 @@ MemoryIsLast =
     (step : Step) (w : WorldState) (refused : OutOfMemory)
     → Next step (turn w (Some (Memory refused)) w) ↔ (TakesMemory step × ((w' : WorldState) × Next step (turn w None w')))
 
--- the board that an expansion closes was open, of least cost plus sum, and below the limit of the worker's best cost
+-- The board that an expansion closes was open, of least cost plus sum, and below the limit of the worker's best cost. No board that was
+-- open had a lower cost plus sum.
 abbrev pub LeastIsExpanded : Type 0
 LeastIsExpanded =
     (role : Role) (it : Turn WorkerState Refusal) (b : BoardModel) (before after : Known)
@@ -111,6 +112,7 @@ LeastIsExpanded =
     → KnowsAs it.after b after
     → after.expanded ≡ true
     → IsNext role.task it.before b before × (before.cost + role.task.sum b < limit_of it.before.best) × (it.answer ≡ None)
+    × ((c : BoardModel) (known : Known) → IsOpen role.task it.before c known → before.cost + role.task.sum b ≤ known.cost + role.task.sum c)
 
 -- all moves are there except the one that is left out, if any
 abbrev pub OneMoveIsLeftOut : Type 0
@@ -159,7 +161,11 @@ RestsKeepTheFloor =
 abbrev pub HasHighFloors : BookState → Type 0
 HasHighFloors book = All (λ floor. IsNotBelow floor (Some (limit_of book.best))) book.floors
 
--- so it is in the opening world, and each step keeps it
+-- then each floor that is there is at least that limit
+abbrev pub HighFloorsReachTheLimit : Type 0
+HighFloorsReachTheLimit = (book : BookState) (i floor : ℕ) → HasHighFloors book → slice_get book.floors i ≡ Some (Some floor) → limit_of book.best ≤ floor
+
+-- the floors are high in the opening world, and each step keeps them so
 abbrev pub FloorsAreHigh : Type 0
 FloorsAreHigh =
     ((job : Job) (via : Move) → HasHighFloors (opening job via).book)
