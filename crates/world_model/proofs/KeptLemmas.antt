@@ -5,7 +5,7 @@ use Rattle.std.specs.declared.alloc.Global.{Global}
 use Rattle.std.proofs.lemmas.List.Sums.{sum_by-le}
 use Rattle.std.proofs.lemmas.Option.{slice_get_within, get_or_from_slice_get}
 use Rattle.std.specs.FinMap as map
-use Rattle.std.proofs.lemmas.Bool.{cases_Bool, cond-true, cond-false, ltb-true}
+use Rattle.std.proofs.lemmas.Bool.{cases_lt, cases_Bool, cond-true, cond-false, ltb-true}
 use Rattle.std.proofs.lemmas.List.Elements.{Contains-push}
 use Rattle.memory.specs.declared.OutOfMemory.{OutOfMemory}
 use Rattle.board.specs.declared.moves.Move.{Move}
@@ -287,7 +287,7 @@ pub plans_cost : PlansCostNoMore
 plans_cost w cost plan within = within.2
 
 pub first_moves : FirstMovesAreKnown
-first_moves w b q m plan by = by
+first_moves = (λ w b q by. by, λ w b q m plan by. by)
 
 -- the smaller of two least numbers is at least what both are
 lesser_high : (P Q : ℕ → Type 0) (x y : Option ℕ) (m n : ℕ) → lesser x y ≡ Some m → IsLeastWith P x → IsLeastWith Q y → ((k : ℕ) → P k → n ≤ k) → ((k : ℕ) → Q k → n ≤ k) → n ≤ m
@@ -296,15 +296,39 @@ lesser_high P Q None (Some b) m n is p q above above' = let e : b ≡ m = cc in 
 lesser_high P Q (Some a) None m n is p q above above' = let e : a ≡ m = cc in let le = above a p.0 in omega arith
 lesser_high P Q (Some a) (Some b) m n is p q above above' = let e : min a b ≡ m = cc in let le = above a p.0 in let le' = above' b q.0 in omega arith
 
+-- and it is one of the two
+lesser_one : (P Q : ℕ → Type 0) (x y : Option ℕ) (m : ℕ) → lesser x y ≡ Some m → IsLeastWith P x → IsLeastWith Q y → P m ⊎ Q m
+lesser_one P Q None None m is p q = absurd (let e : ◌≡◌ {A = Option ℕ} None (Some m) = is in cc)
+lesser_one P Q None (Some b) m is p q = let e : b ≡ m = cc in inr (subst Q e q.0)
+lesser_one P Q (Some a) None m is p q = let e : a ≡ m = cc in inl (subst P e p.0)
+lesser_one P Q (Some a) (Some b) m is p q =
+    let e : min a b ≡ m = cc in
+    ⊎_elim
+    (λ (lt : a < b). let e' : a ≡ m = omega (arith, e, lt) in inl (subst P e' p.0))
+    (λ (ge : b ≤ a). let e' : b ≡ m = omega (arith, e, ge) in inr (subst Q e' q.0))
+    (cases_lt a b)
+
 module _ (w : WorldState) (lowest reached : Option ℕ) (is_lowest : IsLowest w lowest) (is_reached : IsReached w reached) where
+  abbrev IsAtFrontier : ℕ → Type 0
+  IsAtFrontier f = (b : BoardModel) × (cost : ℕ) × IsInFrontier w b cost × (f ≡ cost + w.task.sum b)
+
+  abbrev IsKnownGoal : ℕ → Type 0
+  IsKnownGoal cost = (known : Known) × Knows w (w.owner w.task.goal) w.task.goal known × (known.cost ≡ cost)
+
+  bound_one : (bound : ℕ) → IsBoundOf (end_at w lowest reached) bound → (bound ≡ w.task.sum w.task.start) ⊎ IsAtFrontier bound ⊎ IsKnownGoal bound
+  bound_one bound is =
+      let e = is.2 in
+      ⊎_elim
+      (λ (lt : w.task.sum w.task.start < is.0). let same : is.0 ≡ bound = omega (arith, e, lt) in inr (subst (λ n. IsAtFrontier n ⊎ IsKnownGoal n) same (lesser_one IsAtFrontier IsKnownGoal lowest reached is.0 is.1 is_lowest is_reached)))
+      (λ (ge : is.0 ≤ w.task.sum w.task.start). let same : bound ≡ w.task.sum w.task.start = omega (arith, e, ge) in inl same)
+      (cases_lt (w.task.sum w.task.start) is.0)
+
   bound_high : (bound : ℕ) → IsBoundOf (end_at w lowest reached) bound → (w.task.sum w.task.start ≤ bound) × ((n : ℕ) → ((b : BoardModel) (cost : ℕ) → IsInFrontier w b cost → n ≤ cost + w.task.sum b) → ((known : Known) → Knows w (w.owner w.task.goal) w.task.goal known → n ≤ known.cost) → n ≤ bound)
   bound_high bound is = (
     let e = is.2 in omega arith,
     λ n frontier goal.
         let le : n ≤ is.0 =
-        lesser_high (λ f. (b : BoardModel) × (cost : ℕ) × IsInFrontier w b cost × (f ≡ cost + w.task.sum b))
-        (λ cost. (known : Known) × Knows w (w.owner w.task.goal) w.task.goal known × (known.cost ≡ cost))
-        lowest reached is.0 n is.1 is_lowest is_reached (λ k h. let le' = frontier h.0 h.1 h.2 in omega (arith, h.3)) (λ k h. let le' = goal h.0 h.1 in omega (arith, h.2)) in
+        lesser_high IsAtFrontier IsKnownGoal lowest reached is.0 n is.1 is_lowest is_reached (λ k h. let le' = frontier h.0 h.1 h.2 in omega (arith, h.3)) (λ k h. let le' = goal h.0 h.1 in omega (arith, h.2)) in
         let e = is.2 in omega arith,
   )
 
@@ -314,7 +338,10 @@ module _ (w : WorldState) (lowest reached : Option ℕ) (is_lowest : IsLowest w 
   bound_in bound best cause (inr alone) = alone.0
 
 pub bounds_high : BoundsAreHigh
-bounds_high w bound best cause given = bound_high w given.0 given.1 given.2 given.3 bound (bound_in w given.0 given.1 given.2 given.3 bound best cause given.4)
+bounds_high w bound best cause given =
+    let is = bound_in w given.0 given.1 given.2 given.3 bound best cause given.4 in
+    let high = bound_high w given.0 given.1 given.2 given.3 bound is in
+    (high.0, high.1, bound_one w given.0 given.1 given.2 given.3 bound is)
 
 -- ---- in a run nothing has happened yet, or the start is expanded; so a world that it reaches is kept
 

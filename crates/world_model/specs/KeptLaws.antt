@@ -96,7 +96,8 @@ BoundsAreGiven =
     → IsGiven w (Bounded bound best cause rows)
     → IsBounded w bound best cause
 
--- the bound is at least the start's sum, and at least each n that no board of the frontier is below, nor the cost at which the goal is known
+-- The bound is at least the start's sum. It is at least n, too, where no board of the frontier is below n, nor the cost at which the goal
+-- is known. And it is the start's sum, or the cost plus sum of a board of the frontier, or the cost at which the goal is known.
 abbrev pub BoundsAreHigh : Type 0
 BoundsAreHigh =
     (w : WorldState) (bound : ℕ) (best : Option (ℕ × Vec Move Global)) (cause : Cause)
@@ -106,6 +107,9 @@ BoundsAreHigh =
     → ((b : BoardModel) (cost : ℕ) → IsInFrontier w b cost → n ≤ cost + w.task.sum b)
     → ((known : Known) → Knows w (w.owner w.task.goal) w.task.goal known → n ≤ known.cost)
     → n ≤ bound)
+    × ((bound ≡ w.task.sum w.task.start)
+    ⊎ ((b : BoardModel) × (cost : ℕ) × IsInFrontier w b cost × (bound ≡ cost + w.task.sum b))
+    ⊎ ((known : Known) × Knows w (w.owner w.task.goal) w.task.goal known × (known.cost ≡ bound)))
 
 -- the goal's owner knows it
 abbrev pub KnowsGoal : WorldState → Type 0
@@ -178,12 +182,14 @@ LastMovesLeadBack =
     → Knows w i b known
     → (plan : List Move) × (cost : ℕ) × Leads w.task.rule w.task.start plan b cost × (cost ≤ known.cost) × IsByLastMoves w w.task.start plan b
 
--- the first of such moves leads to a board that its owner knows with that last move, and the others go on from there
+-- An empty plan leads by last moves from a board to itself alone. The first move of any other plan leads to a board that its owner knows
+-- with that last move, and the rest goes on from there.
 abbrev pub FirstMovesAreKnown : Type 0
 FirstMovesAreKnown =
-    (w : WorldState) (b q : BoardModel) (m : Move) (plan : List Move)
+    ((w : WorldState) (b q : BoardModel) → IsByLastMoves w b [] q → b ≡ q)
+    × ((w : WorldState) (b q : BoardModel) (m : Move) (plan : List Move)
     → IsByLastMoves w b (m ∷ plan) q
-    → (next : BoardModel) × (c : ℕ) × (known : Known) × Moves w.task.rule b m next c × Knows w (w.owner next) next known × (known.via ≡ m) × IsByLastMoves w next plan q
+    → (next : BoardModel) × (c : ℕ) × (known : Known) × Moves w.task.rule b m next c × Knows w (w.owner next) next known × (known.via ≡ m) × IsByLastMoves w next plan q)
 
 -- the plan leads to the goal at this cost by last moves, and the goal is known to its owner at no less
 abbrev pub IsWithinReach : WorldState → ℕ → Vec Move Global → Type 0
@@ -198,7 +204,7 @@ PlansAreWithinReach =
     ((w : WorldState) (cost : ℕ) (plan : Vec Move Global) (rows : Vec (BoardModel × ℕ) Global) → IsGiven w (Optimal cost plan rows) → IsWithinReach w cost plan)
     × ((w : WorldState) (bound : ℕ) (best : ℕ × Vec Move Global) (cause : Cause) → IsBounded w bound (Some best) cause → IsWithinReach w best.0 best.1)
 
--- and costs no more than that at which the goal's owner knows it
+-- and it costs no more than that at which the goal's owner knows the goal
 abbrev pub PlansCostNoMore : Type 0
 PlansCostNoMore = (w : WorldState) (cost : ℕ) (plan : Vec Move Global) → IsWithinReach w cost plan → (known : Known) × Knows w (w.owner w.task.goal) w.task.goal known × (cost ≤ known.cost)
 
