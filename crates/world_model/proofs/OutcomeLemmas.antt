@@ -33,7 +33,7 @@ use Rattle.world_model.specs.Outcomes.{IsByLastMoves, AreRowsBelow, AreRowsFor, 
 use Rattle.world_model.specs.declared.steps.Stop.{Stop}
 use Rattle.world_model.specs.declared.steps.Stop.TheVariants.{Quiet, Limit, Memory, Start}
 use Rattle.world_model.specs.Costs.{IsLeastWith, lesser, limit_of}
-use Rattle.world_model.specs.Laws.{BoundsAreTrue, OutcomesAnswer}
+use Rattle.world_model.specs.Laws.{BoundsAreTrue, OutcomesAnswer, PlansLeadThere}
 use Rattle.world_model.specs.Quiet.{IsQuiet, QuietIsTrueIn}
 use Rattle.world_model.specs.Workers.{WorkerState}
 use Rattle.world_model.proofs.ChangeLemmas.{offer_owned, knows_owned, move_low, plan_short, none_in, same_key, same_known}
@@ -115,6 +115,9 @@ module _ (w : WorldState) (shaped : IsShaped w) (sound : IsSound w) where
 
   pub items_reached : (to : ℕ) (item : Item) → IsUnderWay w to item → IsLedTo w item.board item.cost
   items_reached to item way = reached_from item.board item.cost item.via item.cost (omega arith) (λ j x k at lt. known_reached j x k at) (sound.items_reached to item way)
+
+pub plans_lead : PlansLeadThere
+plans_lead w b cost led = led
 
 -- a plan by last moves, with one more
 longer : (w : WorldState) (plan : List Move) (a x b : BoardModel) (c : ℕ) (known : Known) → IsByLastMoves w a plan x → Moves w.task.rule x known.via b c → Knows w (w.owner b) b known → IsByLastMoves w a (plan ++ known.via ∷ []) b

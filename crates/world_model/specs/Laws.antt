@@ -107,17 +107,18 @@ OpeningsAreSound =
 
 -- a plan leads to each board that a sound world knows, at no more than the cost that is known: last moves can be followed back
 abbrev pub KnownBoardsAreReached : Type 0
-KnownBoardsAreReached =
-    (w : WorldState)
-    → IsShaped w
-    → IsSound w
-    → (i : ℕ) (b : BoardModel) (known : Known)
-    → Knows w i b known
-    → (plan : List Move) × (k : ℕ) × Leads w.task.rule w.task.start plan b k × (k ≤ known.cost)
+KnownBoardsAreReached = (w : WorldState) → IsShaped w → IsSound w → (i : ℕ) (b : BoardModel) (known : Known) → Knows w i b known → IsLedTo w b known.cost
 
 -- and to each that is under way
 abbrev pub ItemsAreReached : Type 0
 ItemsAreReached = (w : WorldState) → IsShaped w → IsSound w → (to : ℕ) (item : Item) → IsUnderWay w to item → IsLedTo w item.board item.cost
+
+-- so some plan leads there from the start, and costs no more
+abbrev pub PlansLeadThere : Type 0
+PlansLeadThere =
+    (w : WorldState) (b : BoardModel) (cost : ℕ)
+    → IsLedTo w b cost
+    → (plan : List Move) × (k : ℕ) × Leads w.task.rule w.task.start plan b k × (k ≤ cost)
 
 -- no plan costs less than n, where no board of a sound world's frontier is below n, nor the cost at which the goal is known
 abbrev pub FrontiersBound : Type 0
