@@ -19,3 +19,8 @@ pub fn book_code(fault: BookFault) -> &'static str
         BookFault::AllowanceRemains => "Q7",
     }
 }
+
+/// No two faults have the same code.
+pub fn codes_differ()
+    ensures { faults.CodesDiffer }
+{}

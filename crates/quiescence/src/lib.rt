@@ -15,4 +15,4 @@ mod book;
 mod faults;
 
 pub use book::{Book, Rested};
-pub use faults::book_code;
+pub use faults::{book_code, codes_differ};

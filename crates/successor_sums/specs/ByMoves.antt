@@ -1,5 +1,5 @@
 -- Items for some of the four moves, in their order.
-use Rattle.std.specs.Prelude.{ℕ, zero, suc, ◌≡◌, ◌≤◌, List, [], ◌∷◌, length, Option, Some, None, IfSome}
+use Rattle.std.specs.Prelude.{ℕ, Bool, true, zero, suc, ◌≡◌, ◌≤◌, ◌↔◌, List, [], ◌∷◌, length, Option, Some, None, IfSome}
 use Rattle.board.specs.declared.moves.Move.{Move}
 use Rattle.board.specs.declared.moves.Move.TheVariants.{U, L, R, D}
 use Rattle.successor_sums.specs.declared.by_moves.ByMoves.TheInside.{Inside}
@@ -52,6 +52,16 @@ entries_of four = before U four.up (before L four.left (before R four.right (bef
 -- P holds of each move's item
 abbrev pub OfFour : {A : Type 0} → (A → Type 0) → ByMovesModel A → Type 0
 OfFour P four = IfSome four.up P × IfSome four.left P × IfSome four.right P × IfSome four.down P
+
+-- the item of each move is what the function makes for it
+abbrev pub ItemsAreAsMade : Type 0 → Type 0
+ItemsAreAsMade A = (made : Move → Option A) (m : Move) → of_move (four_by made) m ≡ made m
+
+-- the items of the four moves pass a test exactly where what the function makes for every move passes it
+abbrev pub FourAreAllMoves : Type 0 → Type 0
+FourAreAllMoves A =
+    (test : A → Bool) (made : Move → Option A)
+    → OfFour (λ item. test item ≡ true) (four_by made) ↔ ((m : Move) → IfSome (made m) (λ item. test item ≡ true))
 
 -- ---- what lies in memory
 

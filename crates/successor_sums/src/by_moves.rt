@@ -4,6 +4,7 @@ ghost use Rattle.std.specs.Prelude.{ℕ, ◌≡◌, ◌≤◌, ◌<◌, if◌the
 ghost use Rattle.std.specs.Prelude.{slice_index_or};
 ghost use Rattle.board.specs.declared.moves.Move.{Move};
 ghost use Rattle.successor_sums.specs.ByMoves.{IsBehind, entries_of, nothing, with_move};
+ghost use Rattle.successor_sums.specs.ByMoves.{FourAreAllMoves, ItemsAreAsMade};
 
 use board::Move;
 use std::marker::Model;
@@ -79,3 +80,9 @@ impl<T: Copy> ByMoves<T> {
         (self.moves[place], self.items[place])
     }
 }
+
+/// What a function makes for each move is the item of that move, and there are no other moves.
+pub fn items_are_as_made<T>()
+    ensures moves { ItemsAreAsMade T }
+    ensures four { FourAreAllMoves T }
+{}

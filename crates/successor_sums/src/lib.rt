@@ -20,6 +20,6 @@ mod by_moves;
 mod exits;
 mod unpacked;
 
-pub use by_moves::{ByMoves, MOVES};
+pub use by_moves::{ByMoves, MOVES, items_are_as_made};
 pub use exits::find_exits;
 pub use unpacked::{Successor, UnpackedBoard};
