@@ -15,7 +15,7 @@ use Rattle.pattern_index.specs.Partitions.{ShareNoTile, PartitionModel, IsPartit
 use Rattle.pattern_index.proofs.ViewMoveLemmas.{board_view, seen_move}
 use Rattle.database_build.specs.Folds.{FoldedModel, IsFoldOf, folded_in}
 use Rattle.lower_bound.specs.Folded.{AreFolded, AreFoldsOf, IsFoldedPotential, folded_parts, part_folded, value_for, AreFoldedPotentials, KeepsOtherTiles, values_of}
-use Rattle.lower_bound.specs.Laws.{FoldedSumsAreLowerBounds, AreOneEach, FoldedBoundsSayNoMore, FoldedBoundsKeepGroups, FoldedBoundsAreTables, MovesMoveOneTile}
+use Rattle.lower_bound.specs.Laws.{FoldedSumsAreLowerBounds, ListedTablesAreOneEach, WholeTablesAreBounds, FoldedBoundsSayNoMore, FoldedBoundsKeepGroups, FoldedBoundsAreTables, MovesMoveOneTile}
 use Rattle.board.specs.declared.moves.Move.{Move}
 use Rattle.board.specs.Weights.{WeightsModel}
 use Rattle.board.specs.Moves.{Moves}
@@ -26,9 +26,7 @@ use Rattle.pattern_index.specs.Views.{IsView, ViewMoves, view_of}
 use Rattle.database_build.specs.Tables.{IsPotential, TableModel, value_in}
 use Rattle.lower_bound.specs.Bounds.{Part, IsBound, sum_of}
 use Rattle.lower_bound.specs.Tables.{AreTablesOf, part_of, BoundModel, IsTables, ArePotentials, AreWhole, parts_of}
-use Rattle.lower_bound.specs.Lists.{AreListed, IsFoldedBound}
-use Rattle.lower_bound.specs.declared.bound.TableList.{TableList}
-use Rattle.lower_bound.specs.declared.bound.TableList.TheVariants.{Whole, Folded}
+use Rattle.lower_bound.specs.Lists.{IsFoldedBound}
 
 -- ---- how values are kept by groups
 
@@ -249,19 +247,23 @@ tables_apart groups lookups is apart i j d lt j_in =
         ∙ ap (λ (g : GroupModel). g.tiles) (get_or-map (λ (table : TableModel). table.selection) lookups k nothing nothing.selection k_in)
         ∙ sym (ap (λ (p : Part). p.tiles) (get_or-map part_of lookups k nothing d k_in))
 
--- where each is a potential, their sum is a lower bound
-pub whole_bound : (rule : WeightsModel) (goal : BoardModel) (split : PartitionModel) (lookups : List TableModel) → IsPartition split → AreTablesOf split.groups lookups → goal.grid ≡ split.grid → All (λ table. IsPotential rule table.selection.tiles goal (value_in table)) lookups → IsLowerBound rule (sum_of (map part_of lookups)) goal
-whole_bound rule goal split lookups is each same potentials = sums_are_bounds rule goal (map part_of lookups) (record {
+-- where each is a potential, they are a bound
+bound_of_whole : (rule : WeightsModel) (goal : BoardModel) (split : PartitionModel) (lookups : List TableModel) → IsPartition split → AreTablesOf split.groups lookups → goal.grid ≡ split.grid → All (λ table. IsPotential rule table.selection.tiles goal (value_in table)) lookups → IsBound rule goal (map part_of lookups)
+bound_of_whole rule goal split lookups is each same potentials = record {
   groups = All-map (λ part. AreGroupTiles goal.grid part.tiles) part_of lookups groups;
   apart = tables_apart split.groups lookups each is.apart;
   potentials = All-map (λ part. IsPotential rule part.tiles goal part.value) part_of lookups potentials;
-})
+}
   where
     groups : All (λ table. AreGroupTiles goal.grid table.selection.tiles) lookups
     groups k d k_in =
         let g = (of_tables (λ h. IsGroup h) split.groups lookups each is.groups k d k_in).group in
         let at = of_tables (λ h. h.grid ≡ split.grid) split.groups lookups each is.of_grid k d k_in in
         subst (λ (grid : ShapeModel). AreGroupTiles grid (get_or lookups k d).selection.tiles) (at ∙ sym same) g
+
+-- so their sum is a lower bound
+pub whole_bound : (rule : WeightsModel) (goal : BoardModel) (split : PartitionModel) (lookups : List TableModel) → IsPartition split → AreTablesOf split.groups lookups → goal.grid ≡ split.grid → All (λ table. IsPotential rule table.selection.tiles goal (value_in table)) lookups → IsLowerBound rule (sum_of (map part_of lookups)) goal
+whole_bound rule goal split lookups is each same potentials = sums_are_bounds rule goal (map part_of lookups) (bound_of_whole rule goal split lookups is each same potentials)
 
 -- what tables say of a board adds up to its sum
 pub tables_sum : (lookups : List TableModel) (b : BoardModel) → sum_by (λ table. value_in table (view_of table.selection.tiles b)) lookups ≡ sum_of (map part_of lookups) b
@@ -414,9 +416,11 @@ folded_each tables is none_whole =
     is.one_each
 
 -- so tables that are given out are one for each group
-pub listed_each : (tables : BoundModel) (list : TableList) → IsTables tables → AreListed tables list → AreOneEach tables.split.groups list
-listed_each tables (Whole lookups) is listed = ap (map (λ (table : TableModel). table.selection)) listed.0 ∙ whole_each tables is listed.1
-listed_each tables (Folded folds) is listed = ap (map (λ (fold : FoldedModel). fold.selection)) listed.0 ∙ folded_each tables is listed.1
+pub listed_each : ListedTablesAreOneEach
+listed_each tables is = (
+  (λ lookups listed. ap (map (λ (table : TableModel). table.selection)) listed.0 ∙ whole_each tables is listed.1),
+  (λ folds listed. ap (map (λ (fold : FoldedModel). fold.selection)) listed.0 ∙ folded_each tables is listed.1),
+)
 
 -- each table is of the partition's grid
 pub table_grids : (tables : BoundModel) → IsTables tables → All (λ table. table.selection.grid ≡ tables.split.grid) tables.lookups
@@ -447,6 +451,11 @@ tables_are_bounds rule goal tables is same potentials =
     (λ (folded : AreFoldsOf tables.split.groups tables.folds × (tables.lookups ≡ [])).
     subst (λ (ps : List Part). IsLowerBound rule (sum_of ps) goal) (sym (all_folded_parts tables folded.1)) (folded_sums_below rule goal tables.split tables.folds is.partition same folded.0 potentials.folded))
     is.one_each
+
+-- the parts of whole tables are a bound
+pub whole_are_bounds : WholeTablesAreBounds
+whole_are_bounds rule goal tables is whole same potentials =
+    subst (λ (ps : List Part). IsBound rule goal ps) (sym (whole_parts tables whole)) (bound_of_whole rule goal tables.split tables.lookups is.partition (whole_each tables is whole) same potentials.whole)
 
 -- one table for each group
 pub tables_count : (tables : BoundModel) → IsTables tables → length tables.lookups + length tables.folds ≡ length tables.split.groups

@@ -1,5 +1,6 @@
 -- The laws of sums. Each is the contract of a function that does nothing.
 use Rattle.std.specs.Prelude.{ℕ, ◌≡◌, ◌⊎◌, ◌<◌, ◌≤◌, ◌↔◌, List, length, All, AllPairs, Contains, get_or, slice_index, slice_index_or, sum}
+use Rattle.std.specs.Borrow.{Bor}
 use Rattle.board.specs.declared.moves.Move.{Move}
 use Rattle.board.specs.Boards.{BoardModel, IsBoard, blank_of}
 use Rattle.board.specs.Weights.{WeightsModel}
@@ -9,10 +10,10 @@ use Rattle.pattern_index.specs.Groups.{GroupModel}
 use Rattle.pattern_index.specs.Partitions.{PartitionModel, IsPartition, ShareNoTile}
 use Rattle.pattern_index.specs.Views.{view_of}
 use Rattle.database_build.specs.Folds.{FoldedModel}
+use Rattle.database_build.specs.Tables.{TableModel}
 use Rattle.lower_bound.specs.Bounds.{Part, IsBound, sum_of}
-use Rattle.lower_bound.specs.Tables.{BoundModel, IsTables, AreTablesOf, AreConsistent, ArePotentials, parts_of}
+use Rattle.lower_bound.specs.Tables.{BoundModel, IsTables, AreTablesOf, AreConsistent, ArePotentials, AreWhole, parts_of}
 use Rattle.lower_bound.specs.Lists.{AreListed, IsFoldedBound}
-use Rattle.lower_bound.specs.declared.bound.TableList.{TableList}
 use Rattle.lower_bound.specs.declared.bound.TableList.TheVariants.{Whole, Folded}
 use Rattle.lower_bound.specs.ByTile.{AreGroupsByTile}
 use Rattle.lower_bound.specs.Slides.{IsUntold, TellsBoth}
@@ -30,6 +31,16 @@ TablesAreLowerBounds =
     → goal.grid ≡ tables.split.grid
     → ArePotentials rule goal tables
     → IsLowerBound rule (sum_of (parts_of tables)) goal
+
+-- the parts of whole tables of a partition of the goal's grid are a bound where the tables are potentials
+abbrev pub WholeTablesAreBounds : Type 0
+WholeTablesAreBounds =
+    (rule : WeightsModel) (goal : BoardModel) (tables : BoundModel)
+    → IsTables tables
+    → AreWhole tables
+    → goal.grid ≡ tables.split.grid
+    → ArePotentials rule goal tables
+    → IsBound rule goal (parts_of tables)
 
 -- where each table of a partition of the goal's grid was folded from a potential, their sum is never above the cost of a plan
 abbrev pub FoldedSumsAreLowerBounds : Type 0
@@ -60,14 +71,13 @@ FoldedBoundsKeepGroups = (tables folded : BoundModel) → IsFoldedBound tables f
 abbrev pub FoldedBoundsAreTables : Type 0
 FoldedBoundsAreTables = (tables folded : BoundModel) → IsTables tables → IsFoldedBound tables folded → IsTables folded
 
--- tables as they are given out: one for each group, in the order of the groups
-abbrev pub AreOneEach : List GroupModel → TableList → Type 0
-AreOneEach groups (Whole lookups) = AreTablesOf groups lookups.now
-AreOneEach groups (Folded folds) = AreFoldsOf groups folds.now
-
--- the tables that are given out are one for each group
+-- tables that are given out are one for each group, in the order of the groups, whole or folded
 abbrev pub ListedTablesAreOneEach : Type 0
-ListedTablesAreOneEach = (tables : BoundModel) (list : TableList) → IsTables tables → AreListed tables list → AreOneEach tables.split.groups list
+ListedTablesAreOneEach =
+    (tables : BoundModel)
+    → IsTables tables
+    → ((lookups : Bor (List TableModel)) → AreListed tables (Whole lookups) → AreTablesOf tables.split.groups lookups.now)
+    × ((folds : Bor (List FoldedModel)) → AreListed tables (Folded folds) → AreFoldsOf tables.split.groups folds.now)
 
 -- a move keeps each tile on its cell, except the one that was where the blank is after the move
 abbrev pub MovesMoveOneTile : Type 0

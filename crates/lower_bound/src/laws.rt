@@ -2,6 +2,7 @@
 
 ghost use Rattle.std.specs.Prelude.{◌≡◌, ◌*◌};
 ghost use Rattle.lower_bound.specs.Laws.{SumsAreLowerBounds, TablesAreLowerBounds};
+ghost use Rattle.lower_bound.specs.Laws.{WholeTablesAreBounds};
 ghost use Rattle.lower_bound.specs.Laws.{FoldedSumsAreLowerBounds, MovesMoveOneTile, ValuesAddUp};
 ghost use Rattle.lower_bound.specs.Laws.{ATileHasOneGroup, ListedTablesAreOneEach};
 ghost use Rattle.lower_bound.specs.Laws.{FoldedBoundsSayNoMore, FoldedBoundsKeepGroups};
@@ -18,8 +19,10 @@ pub fn greatest_sum_is_of_24_values()
 {}
 
 /// A sum of potentials of groups that share no tile is admissible: never above the cost of a plan.
+/// Whole tables that are potentials make such a sum.
 pub fn sums_are_lower_bounds()
     ensures parts { SumsAreLowerBounds }
+    ensures whole { WholeTablesAreBounds }
     ensures tables { TablesAreLowerBounds }
 {}
 
