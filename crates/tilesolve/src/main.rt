@@ -23,6 +23,11 @@ use std::time::Instant;
 // How many boards are expanded from one look at the clock to the next.
 const STRIDE: u64 = 10_000;
 
+// How many bytes of its stack the main thread takes when it begins. Where no thread can be started
+// it does the work of all workers, deep in its stack. The system gives a started thread its whole
+// stack at once, but enlarges that of the main thread only as long as there is memory.
+const STACK: usize = 524_288;
+
 // How many microseconds a second has.
 const SECOND: u64 = 1_000_000;
 
@@ -38,11 +43,13 @@ struct Progress<'a, R> {
     // The second for which a line of progress was printed last, or is due.
     second: AtomicU64,
     is_due: AtomicBool,
+    // What was read of the stack, which nobody asks for.
+    read: u8,
 }
 
 impl<R: Eprint + AllocGlobal + Clock> Progress<'_, R> {
     // Nothing is expanded yet.
-    fn new(rt: &R) -> Progress<'_, R> {
+    fn new(rt: &R, read: u8) -> Progress<'_, R> {
         Progress {
             rt,
             expanded: AtomicU64::new(0),
@@ -50,6 +57,7 @@ impl<R: Eprint + AllocGlobal + Clock> Progress<'_, R> {
             begun: Instant::now(rt).ok(),
             second: AtomicU64::new(0),
             is_due: AtomicBool::new(false),
+            read,
         }
     }
 
@@ -141,6 +149,14 @@ fn read_words(rt: &(impl Env + AllocGlobal)) -> Result<Vec<String>, Ending> {
     }
 }
 
+// Takes stack by writing to it. What it answers means nothing.
+#[inline(never)]
+fn take_stack(place: usize) -> u8 {
+    let mut room = [0; STACK];
+    room[place % STACK] = 1;
+    room[place / 2 % STACK]
+}
+
 fn main(rt: HostRuntime) -> ExitCode {
     let alloc = rt.alloc();
     let mut errors = ByteSink::new(rt.stderr());
@@ -156,7 +172,7 @@ fn main(rt: HostRuntime) -> ExitCode {
     };
     let mut source = source;
     let mut sink = ByteSink::new(writer);
-    let progress = Progress::new(&rt);
+    let progress = Progress::new(&rt, take_stack(words.len()));
     ExitCode::from(run_with_progress(
         &rt,
         alloc,
