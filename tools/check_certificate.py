@@ -3,7 +3,8 @@
 
 It prints one line of JSON, such as {"cost":1,"status":"accepted"}, {"bound":6,"status":"accepted"} or
 {"fault":"C5","status":"refused"}. The exit status is 0 for accepted, 5 for refused and 2 for wrong usage. If the
-input can't be read, or memory runs out, F6 or F7 goes to standard error, and the exit status is 3 or 4.
+input can't be read, the line can't be written, or memory runs out, F6, B2 or F7 goes to standard error, and the exit
+status is 3, 3 or 4.
 
 It needs Python 3.8 and nothing else. It was written from the description of the format alone and shares no code
 with tilesolve. It is a second opinion for whoever prefers to trust 200 lines of Python.
@@ -184,12 +185,19 @@ def main():
     parser.add_argument("file", metavar="FILE", nargs="?", default=0, help="the certificate")
     answer = judge(parser.parse_args().file)
     code = answer.get("fault", "")
-    if code in ("F6", "F7"):
+    if code not in ("F6", "F7"):
+        try:
+            with open(1, "w", closefd=False) as output:
+                output.write(json.dumps(answer, separators=(",", ":")) + "\n")
+        except OSError:
+            code = "B2"
+    if code in ("F6", "F7", "B2"):
         print(f"check_certificate: {code}", file=sys.stderr)
-    else:
-        print(json.dumps(answer, separators=(",", ":")))
-    sys.exit({"": 0, "F6": 3, "F7": 4}.get(code, 5))
+    sys.exit({"": 0, "F6": 3, "B2": 3, "F7": 4}.get(code, 5))
 
 
 if __name__ == "__main__":
-    main()
+    try:
+        main()
+    except KeyboardInterrupt:
+        sys.exit(130)
