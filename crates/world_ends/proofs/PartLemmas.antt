@@ -35,6 +35,7 @@ use Rattle.board.specs.declared.costs.TheConstants.{GREATEST_COST}
 use Rattle.outcomes.specs.declared.outcome.Cause.{Cause}
 use Rattle.outcomes.specs.declared.outcome.Why.TheVariants.{Exhausted}
 use Rattle.outcomes.specs.declared.outcome.Outcome.{Outcome}
+use Rattle.outcomes.specs.declared.outcome.Ending.{Ending}
 use Rattle.outcomes.specs.declared.outcome.Ending.TheVariants.{Optimal, Unsolvable, Bounded}
 use Rattle.outcomes.specs.declared.outcome.Cause.TheVariants.{Memory}
 use Rattle.outcomes.specs.declared.outcome.Want.TheVariants.{Refused}
@@ -46,9 +47,9 @@ use Rattle.world_model.specs.KeptLaws.{KnowsGoal}
 use Rattle.world_model.proofs.KeptLemmas.{bounds_given, goal_there, stopped_for_memory}
 use Rattle.world_model.proofs.OutcomeLemmas.{bounds_true}
 use Rattle.world_ends.specs.Endings.{EndsWhole, HasPlanAbove, EndsIn, IsProvedPlan, end_at}
-use Rattle.world_ends.specs.Readings.{BoundsAreOfWorlds, IsForParity}
+use Rattle.world_ends.specs.Readings.{BoundsAreOfWorlds, HasBoundOf, IsForParity}
 use Rattle.outcomes.specs.Endings.{without_rows}
-use Rattle.world_ends.specs.Laws.{EndingsLackRowsAlone, WantedRowsLeaveABound, BoundsLackRowsAlone, WantedRowsLeaveTheBound, EndsAreBounds, MemoryEndsAreWanted, UnsolvableEndsAreGiven, WorldsHaveParts, RowsMakeAnAnswer, RowsMakeABoundAnswer, EndingsAnswer}
+use Rattle.world_ends.specs.Laws.{EndingsLackRowsAlone, WantedRowsLeaveABound, BoundsLackRowsAlone, WantedRowsLeaveTheBound, EndsAreBounds, MemoryEndsAreWanted, UnsolvableEndsAreGiven, WorldsHaveParts, RowsMakeAnAnswer, RowsMakeABoundAnswer, ReadBoundsAreOfWorlds, EndingsAnswer}
 use Rattle.outcomes.specs.declared.outcome.Outcome.TheVariants as outcome
 
 -- ---- least numbers, put together
@@ -503,6 +504,10 @@ unsolvable_ends w why = ((λ x. x), (λ x. x))
 -- an answer for parity answers no task whose start is of the goal's class
 pub other_class : {X : Type 0} (answers : Task → X → Type 0) (parity : X) → IsForParity answers parity → (task : Task) → answers task parity → ¬ SameClass task.start task.goal
 other_class answers parity is task says = ((is task).0 says).1
+
+-- a bound that an answer names is one of its world
+pub read_bounds : {X : Type 0} (gives : WorldState → X → Type 0) (end : X → Ending) → BoundsAreOfWorlds gives end → ReadBoundsAreOfWorlds gives end
+read_bounds gives end of_worlds w answer bound best cause given same = subst (HasBoundOf w) same (of_worlds w answer given)
 
 -- a world has its own parts
 pub worlds_parts : WorldsHaveParts

@@ -29,16 +29,20 @@ abbrev pub EndsWhole : WorldState → Ending → Type 0
 EndsWhole w (Optimal cost plan) = IsProvedPlan w cost plan.items
 EndsWhole w (Unsolvable why) = IsGiven w (outcome.Unsolvable why)
 EndsWhole w (Bounded bound best cause) =
-    (lowest : Option ℕ) × (reached : Option ℕ) × IsLowest w lowest × IsReached w reached × IsStoppedAt (end_at w lowest reached) bound best cause
+    (lowest : Option ℕ) × (reached : Option ℕ) × IsLowest w lowest × IsReached w reached
+    × IsStoppedAt (end_at w lowest reached) bound best cause
 
 -- the world has this bound, and knows the goal, so there is a plan to be followed back
 abbrev pub HasPlanAbove : WorldState → ℕ → Type 0
 HasPlanAbove w bound =
-    (lowest : Option ℕ) × (reached : Option ℕ) × IsLowest w lowest × IsReached w reached × IsBoundOf (end_at w lowest reached) bound × (reached ≢ None)
+    (lowest : Option ℕ) × (reached : Option ℕ) × IsLowest w lowest × IsReached w reached
+    × IsBoundOf (end_at w lowest reached) bound × (reached ≢ None)
 
--- The world ends so: with an outcome that it gives, without rows, for which no memory is taken. Where memory is refused for the plan, the bound is given alone.
+-- The world ends so: with an outcome that it gives, without rows, for which no memory is taken. Where memory is refused
+-- for the plan, the bound is given alone.
 abbrev pub EndsIn : WorldState → Ending → Type 0
 EndsIn w (Optimal cost plan) = EndsWhole w (Optimal cost plan)
 EndsIn w (Unsolvable why) = EndsWhole w (Unsolvable why)
 EndsIn w (Bounded bound best cause) =
-    EndsWhole w (Bounded bound best cause) ⊎ (HasPlanAbove w bound × (best ≡ None) × ((refused : OutOfMemory) × (cause ≡ Memory (Refused refused))))
+    EndsWhole w (Bounded bound best cause)
+    ⊎ (HasPlanAbove w bound × (best ≡ None) × ((refused : OutOfMemory) × (cause ≡ Memory (Refused refused))))

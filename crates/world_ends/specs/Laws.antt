@@ -14,6 +14,7 @@ use Rattle.world_model.specs.Worlds.{WorldState}
 use Rattle.world_model.specs.Outcomes.{AreRowsFor, IsGiven, IsBounded}
 use Rattle.world_model.specs.KeptLaws.{KnowsGoal}
 use Rattle.world_model.specs.declared.steps.Stop.TheVariants as stops
+use Rattle.outcomes.specs.declared.outcome.Ending.{Ending}
 use Rattle.outcomes.specs.declared.outcome.Ending.TheVariants.{Optimal, Unsolvable, Bounded}
 use Rattle.outcomes.specs.declared.outcome.Why.{Why}
 use Rattle.outcomes.specs.Endings.{EndAnswers}
@@ -37,12 +38,16 @@ WantedRowsLeaveABound =
     → EndsIn w (Optimal cost plan)
     → IsGiven w (outcome.Bounded cost None (Memory (Refused refused)) None)
 
--- a world ends with a bound just where it gives that bound with the rows that are due; or alone, where the goal is known
+-- a world ends with a bound just where it gives that bound with the rows that are due; or alone, where the goal is
+-- known
 abbrev pub BoundsLackRowsAlone : Type 0
 BoundsLackRowsAlone =
-    (w : WorldState) (bound : ℕ) (best : Option (ℕ × Vec Move Global)) (cause : Cause) (rows : Vec (BoardModel × ℕ) Global)
+    (w : WorldState) (bound : ℕ) (best : Option (ℕ × Vec Move Global)) (cause : Cause)
+    (rows : Vec (BoardModel × ℕ) Global)
     → AreRowsFor w bound rows.items
-    → EndsIn w (Bounded bound best cause) ↔ (IsGiven w (outcome.Bounded bound best cause (Some rows)) ⊎ (IsGiven w (outcome.Bounded bound best cause None) × KnowsGoal w))
+    → EndsIn w (Bounded bound best cause)
+    ↔ (IsGiven w (outcome.Bounded bound best cause (Some rows))
+    ⊎ (IsGiven w (outcome.Bounded bound best cause None) × KnowsGoal w))
 
 -- and where memory is refused for rows, which a bound above the start's sum has, it gives that bound alone
 abbrev pub WantedRowsLeaveTheBound : Type 0
@@ -54,14 +59,19 @@ WantedRowsLeaveTheBound =
 
 -- a bound with which a world ends is one that it gives, whatever rows beside it
 abbrev pub EndsAreBounds : Type 0
-EndsAreBounds = (w : WorldState) (bound : ℕ) (best : Option (ℕ × Vec Move Global)) (cause : Cause) → EndsIn w (Bounded bound best cause) → IsBounded w bound best cause
+EndsAreBounds =
+    (w : WorldState) (bound : ℕ) (best : Option (ℕ × Vec Move Global)) (cause : Cause)
+    → EndsIn w (Bounded bound best cause)
+    → IsBounded w bound best cause
 
--- without rows a bound is for memory only where the run was halted so; or where memory was refused for the plan of a goal that is known
+-- without rows a bound is for memory only where the run was halted so; or where memory was refused for the plan of a
+-- goal that is known
 abbrev pub MemoryEndsAreWanted : Type 0
 MemoryEndsAreWanted =
     (w : WorldState) (bound : ℕ) (best : Option (ℕ × Vec Move Global)) (want : Want)
     → EndsIn w (Bounded bound best (Memory want))
-    → (w.book.stop ≡ Some (stops.Memory want)) ⊎ ((best ≡ None) × ((refused : OutOfMemory) × (want ≡ Refused refused)) × KnowsGoal w)
+    → (w.book.stop ≡ Some (stops.Memory want))
+    ⊎ ((best ≡ None) × ((refused : OutOfMemory) × (want ≡ Refused refused)) × KnowsGoal w)
 
 -- a world ends with no plan just where it gives that there is none
 abbrev pub UnsolvableEndsAreGiven : Type 0
@@ -89,6 +99,14 @@ RowsMakeABoundAnswer =
     (task : Task) (bound : ℕ) (best : Option (ℕ × Vec Move Global)) (cause : Cause) (rows : Vec (BoardModel × ℕ) Global)
     → AreRowsOf task rows.items bound
     → EndAnswers task (Bounded bound best cause) ↔ Answers task (outcome.Bounded bound best cause (Some rows))
+
+-- a bound that an answer names, as its ending, is one that the world gives
+abbrev pub ReadBoundsAreOfWorlds : {X : Type 0} → (WorldState → X → Type 0) → (X → Ending) → Type 0
+ReadBoundsAreOfWorlds {X} gives end =
+    (w : WorldState) (answer : X) (bound : ℕ) (best : Option (ℕ × Vec Move Global)) (cause : Cause)
+    → gives w answer
+    → end answer ≡ Bounded bound best cause
+    → IsBounded w bound best cause
 
 -- the ending that a sound world gives answers its task, if the world is quiet where the book says so
 abbrev pub EndingsAnswer : Type 0

@@ -20,7 +20,8 @@ IsOfItem sum items f = (item : Item) × Contains items item × (f ≡ item.cost 
 
 -- the cost plus sum of an item that the worker has unsent
 abbrev pub IsOfUnsent : (BoardModel → ℕ) → WorkerState → ℕ → Type 0
-IsOfUnsent sum worker f = (to : ℕ) × (packet : Packet) × (slice_get worker.unsent to ≡ Some packet) × IsOfItem sum packet f
+IsOfUnsent sum worker f =
+    (to : ℕ) × (packet : Packet) × (slice_get worker.unsent to ≡ Some packet) × IsOfItem sum packet f
 
 -- the cost plus sum of a board on the worker's open list
 abbrev pub IsOfOpen : Task → WorkerState → ℕ → Type 0
@@ -32,11 +33,14 @@ IsOfWorker task worker f = IsOfOpen task worker f ⊎ IsOfItem task.sum worker.h
 
 -- that of one of these workers
 abbrev pub IsOfWorkers : Task → List WorkerState → ℕ → Type 0
-IsOfWorkers task states f = (i : ℕ) × (worker : WorkerState) × (slice_get states i ≡ Some worker) × IsOfWorker task worker f
+IsOfWorkers task states f =
+    (i : ℕ) × (worker : WorkerState) × (slice_get states i ≡ Some worker) × IsOfWorker task worker f
 
 -- the least cost plus sum of the items in a world's lanes
 abbrev pub IsLowestInLanes : WorldState → Option ℕ → Type 0
-IsLowestInLanes w lowest = IsLeastWith (λ f. (to : ℕ) × (item : Item) × HasInLaneTo w to item × (f ≡ item.cost + w.task.sum item.board)) lowest
+IsLowestInLanes w lowest =
+    IsLeastWith (λ f. (to : ℕ) × (item : Item) × HasInLaneTo w to item × (f ≡ item.cost + w.task.sum item.board))
+    lowest
 
 -- items of boards of this grid, at costs of at most `GREATEST_COST`
 abbrev pub AreItemsOn : ShapeModel → List Item → Type 0

@@ -29,16 +29,20 @@ states_of workers = each_of state_of workers
 abbrev pub AreWorkersGuided : {C D S K G : Type 0} → Task → Guide → List (Worker C D S K G) → Type 0
 AreWorkersGuided task guide workers = All (λ worker. IsGuided task guide worker.lists) workers
 
--- A shaped and sound world that has this task, these workers, and the owners of boards among as many. Its book and its lanes may be any.
-pub record HasParts (task : Task) (owner_among : ℕ → BoardModel → ℕ) (states : List WorkerState) (w : WorldState) : Type 0 where
+-- A shaped and sound world that has this task, these workers, and the owners of boards among as many. Its book and its
+-- lanes may be any.
+pub record HasParts (task : Task) (owner_among : ℕ → BoardModel → ℕ) (states : List WorkerState) (w : WorldState)
+    : Type 0 where
   pub asks : w.task ≡ task
   pub owns : (b : BoardModel) → w.owner b ≡ owner_among (length states) b
   pub works : w.workers ≡ states
   pub shaped : IsShaped w
   pub sound : IsSound w
 
--- the workers are those of a world in which this is asked, with their lists in order by one guide, and the tables have the goal's sides
-pub record AreOfWorld {C D S K G : Type 0} (asked : Asked) (owner_among : ℕ → BoardModel → ℕ) (workers : List (Worker C D S K G)) : Type 0 where
+-- the workers are those of a world in which this is asked, with their lists in order by one guide, and the tables have
+-- the goal's sides
+pub record AreOfWorld {C D S K G : Type 0} (asked : Asked) (owner_among : ℕ → BoardModel → ℕ)
+    (workers : List (Worker C D S K G)) : Type 0 where
   pub sides : asked.bound.now.split.grid ≡ asked.goal.grid
   pub guide : Guide
   pub guided : AreWorkersGuided (task_asked asked) guide workers
@@ -46,7 +50,8 @@ pub record AreOfWorld {C D S K G : Type 0} (asked : Asked) (owner_among : ℕ �
   pub parts : HasParts (task_asked asked) owner_among (states_of workers) world
 
 -- the world has these workers, and beside them is as the snapshot says
-pub record IsSeen {C D S K G : Type 0} (asked : Asked) (owner_among : ℕ → BoardModel → ℕ) (workers : List (Worker C D S K G)) (snapshot : Snapshot) (w : WorldState) : Type 0 where
+pub record IsSeen {C D S K G : Type 0} (asked : Asked) (owner_among : ℕ → BoardModel → ℕ)
+    (workers : List (Worker C D S K G)) (snapshot : Snapshot) (w : WorldState) : Type 0 where
   pub parts : HasParts (task_asked asked) owner_among (states_of workers) w
   pub lanes : IsLowestInLanes w snapshot.lanes
   pub stop : w.book.stop ≡ snapshot.stop

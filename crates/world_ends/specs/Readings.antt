@@ -1,4 +1,5 @@
--- What is read of worlds: the answers that they give, when these answer a task, what they are without rows, and figures.
+-- What is read of worlds: the answers that they give, when these answer a task, what they are without rows, and
+-- figures.
 use Rattle.std.specs.Prelude.{◌≡◌, ◌↔◌, ⊤, List, sum_by}
 use Rattle.std.specs.FinMap as map
 use Rattle.board.specs.Rows.{IsLowerBound}

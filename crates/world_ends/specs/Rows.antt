@@ -1,5 +1,6 @@
 -- Rows of known boards.
-use Rattle.std.specs.Prelude.{ℕ, ◌≡◌, ◌≢◌, ◌+◌, ◌<◌, ◌≤◌, ◌↔◌, List, Contains, All, AllPairs, map as each_of, Some, slice_get}
+use Rattle.std.specs.Prelude.{ℕ, ◌≡◌, ◌≢◌, ◌+◌, ◌<◌, ◌≤◌, ◌↔◌, List, Contains, All, AllPairs, map as each_of}
+use Rattle.std.specs.Prelude.{Some, slice_get}
 use Rattle.std.specs.FinMap as map
 use Rattle.board.specs.declared.costs.TheConstants.{GREATEST_COST}
 use Rattle.board.specs.Shapes.{ShapeModel}
@@ -27,17 +28,24 @@ HaveDifferentKeys rows = AllPairs (λ row later. row.key ≢ later.key) rows
 
 -- each key is the search key of a board of the grid, which is known at a cost of at most `GREATEST_COST`
 abbrev pub IsOfBoards : ShapeModel → Knowledge → Type 0
-IsOfBoards grid knowledge = (key : ℕ) (known : Known) → map.get knowledge key ≡ Some known → ((b : BoardModel) × HasSearchKey grid key b) × (known.cost ≤ GREATEST_COST)
+IsOfBoards grid knowledge =
+    (key : ℕ) (known : Known)
+    → map.get knowledge key ≡ Some known
+    → ((b : BoardModel) × HasSearchKey grid key b) × (known.cost ≤ GREATEST_COST)
 
 -- no row has the key of a board of the grid that is known here
 abbrev pub AreElsewhere : ShapeModel → List KeyedRow → Knowledge → Type 0
 AreElsewhere grid rows knowledge =
-    (row : KeyedRow) (b : BoardModel) (known : Known) → Contains rows row → HasKey grid row.key b → map.get knowledge (search_key b) ≢ Some known
+    (row : KeyedRow) (b : BoardModel) (known : Known)
+    → Contains rows row
+    → HasKey grid row.key b
+    → map.get knowledge (search_key b) ≢ Some known
 
 -- the rows of what each of these workers knows
 pub record AreKeyedRows (task : Task) (k : ℕ) (states : List WorkerState) (rows : List KeyedRow) : Type 0 where
   pub apart : HaveDifferentKeys rows
-  pub each : (row : KeyedRow) → Contains rows row ↔ ((i : ℕ) × (worker : WorkerState) × (slice_get states i ≡ Some worker) × IsRowIn task k worker.known row)
+  pub each : (row : KeyedRow) → Contains rows row
+      ↔ ((i : ℕ) × (worker : WorkerState) × (slice_get states i ≡ Some worker) × IsRowIn task k worker.known row)
 
 -- a row with its board's key
 abbrev pub keyed : BoardModel × ℕ → KeyedRow

@@ -20,6 +20,7 @@ ghost use Rattle.world_ends.specs.Laws.{BoundsLackRowsAlone, WantedRowsLeaveTheB
 ghost use Rattle.world_ends.specs.Laws.{EndsAreBounds, MemoryEndsAreWanted};
 ghost use Rattle.world_ends.specs.Laws.{UnsolvableEndsAreGiven, WorldsHaveParts};
 ghost use Rattle.world_ends.specs.Laws.{RowsMakeAnAnswer, RowsMakeABoundAnswer, EndingsAnswer};
+ghost use Rattle.world_ends.specs.Laws.{ReadBoundsAreOfWorlds};
 
 use crate::reading::{Reading, WithFigures, WithRows, WithoutRows};
 use world_model::laws::outcomes_answer;
@@ -57,6 +58,14 @@ pub fn parity_is_of_other_classes<A: Reading>()
     A::keep_laws();
 }
 
+/// A bound that an answer names is one that the world gives, in each reading.
+#[tactic(auto, using(crate::proofs::PartLemmas::read_bounds))]
+pub fn read_bounds_are_of_worlds<A: Reading>()
+    ensures { ReadBoundsAreOfWorlds A.gives A.end }
+{
+    A::keep_laws();
+}
+
 /// The ending that a sound world gives answers its task.
 pub fn endings_answer()
     ensures { EndingsAnswer }
@@ -75,19 +84,26 @@ pub fn figures_are_of_worlds()
         → answer.figures.known ≡ sum_by (λ worker. len worker.known) w.workers }
 {}
 
-/// Each reading is the one that its name says: `WithRows` of outcomes, `WithoutRows` of endings,
-/// `WithFigures` of endings with the figures of the world.
-pub fn readings_are_as_named()
+/// The reading `WithRows` is of outcomes.
+pub fn readings_with_rows_are_outcomes()
     ensures outcomes { (w : WorldState) (outcome : Outcome)
         → ⟦<WithRows as Reading>⟧.gives w outcome ↔ IsGiven w outcome }
     ensures answers { (task : Task) (outcome : Outcome)
         → ⟦<WithRows as Reading>⟧.answers task outcome ↔ Answers task outcome }
     ensures ends { (outcome : Outcome) → ⟦<WithRows as Reading>⟧.end outcome ≡ without_rows outcome }
+{}
+
+/// The reading `WithoutRows` is of endings.
+pub fn readings_without_rows_are_endings()
     ensures endings { (w : WorldState) (ending : Ending)
         → ⟦<WithoutRows as Reading>⟧.gives w ending ↔ EndsIn w ending }
     ensures ending_answers { (task : Task) (ending : Ending)
         → ⟦<WithoutRows as Reading>⟧.answers task ending ↔ EndAnswers task ending }
     ensures ending_ends { (ending : Ending) → ⟦<WithoutRows as Reading>⟧.end ending ≡ ending }
+{}
+
+/// The reading `WithFigures` is of endings with the figures of the world.
+pub fn readings_with_figures_are_counted_endings()
     ensures counted { (w : WorldState) (answer : EndingWithFigures)
         → ⟦<WithFigures as Reading>⟧.gives w answer ↔ EndsWithFigures w answer }
     ensures counted_answers { (task : Task) (answer : EndingWithFigures)
