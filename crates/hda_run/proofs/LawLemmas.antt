@@ -1,6 +1,6 @@
 -- The laws of runs by one worker, and what a reader may believe of an outcome.
-use Rattle.std.proofs.Common.{Bool, true, false, ◌+◌, Result, Ok, Err, IfOk, ◌↔◌, ◌≡◌, ◌≢◌, ℕ, List, ◌++◌, subst, Option, Some, None, ◌⊎◌, [], ◌∷◌, length, map, get_or, refl, sym, ap, inl, inr, arith}
-use Rattle.std.specs.Prelude.{Vec, Contains}
+use Rattle.std.proofs.Common.{Bool, true, false, ◌+◌, Result, Ok, Err, IfOk, ◌↔◌, ◌≡◌, ◌≢◌, ◌∙◌, ℕ, List, ◌++◌, subst, Option, Some, None, ◌⊎◌, [], ◌∷◌, length, map, get_or, refl, sym, ap, inl, inr, arith}
+use Rattle.std.specs.Prelude.{Vec, Contains, slice_get}
 use Rattle.std.specs.declared.alloc.Global.{Global}
 use Rattle.std.proofs.lemmas.List.Elements.{All-contains, Contains-append_cases, Contains-append_right}
 use Rattle.board.specs.declared.moves.Move.{Move}
@@ -28,22 +28,26 @@ use Rattle.world_model.specs.declared.steps.Stop.TheVariants as stop_kinds
 use Rattle.world_model.specs.Openings.{Job, IsJob, opening}
 use Rattle.world_model.specs.Outcomes.{IsGiven, IsBounded}
 use Rattle.world_model.specs.Soundness.{IsSound}
-use Rattle.world_model.specs.Worlds.{WorldState}
+use Rattle.world_model.specs.Worlds.{WorldState, IsLane, IsWorker}
 use Rattle.world_model.proofs.KeptLemmas.{runs_kept, kept_never_cut, causes_stop, memory_bounded}
 use Rattle.world_model.specs.declared.steps.HaltCause.{HaltCause}
 use Rattle.world_model.specs.declared.steps.Refusal.{Refusal}
 use Rattle.world_model.specs.declared.steps.Step.{Step}
-use Rattle.world_model.specs.declared.steps.Step.TheVariants.{Rest, Halt}
-use Rattle.world_model.specs.Steps.{IsRun, Next}
-use Rattle.world_model.specs.Turns.{turn}
-use Rattle.world_model.proofs.ChangeLemmas.{cons_cases, none_in_empty}
+use Rattle.world_model.specs.declared.steps.Step.TheVariants.{Expand, Settle, Send, Deliver, Draw, Announce, Grant, Rest, Halt}
+use Rattle.world_model.specs.Steps.{IsRun, Next, with_lane}
+use Rattle.world_model.specs.Turns.{Turn, turn}
+use Rattle.world_model.specs.Workers.{WorkerState, Lane, Packet, packet_for}
+use Rattle.world_model.proofs.ChangeLemmas.{cons_cases, none_in_empty, lane_there, worker_there}
+use Rattle.world_model.proofs.RestLemmas.{books_are_left, lanes_are_left}
+use Rattle.world_model.proofs.StepCases.{Accepts, Cases, next_cases}
 use Rattle.world_model.specs.Shapes.{IsShaped, IsTask}
 use Rattle.world_ends.specs.Readings.{HasBoundOf, IsForParity}
 use Rattle.hda_run.specs.WholeRuns.{IsOfWholeRun, EndsWholeRun, HasWholeRun}
 use Rattle.hda_run.specs.Alone.{AreLast, IsRunAlone, HaltsNowhere, IsHalt}
 use Rattle.hda_run.specs.Headline.{TellsTruth, IsTrueOfBest}
-use Rattle.hda_run.specs.Jobs.{JobModel, task_in}
-use Rattle.hda_run.specs.Laws.{BoundsSpendTheLimit, BoundTruthsAreBelow, HaltsAreDue, OptimalTruthsAgree, OutcomesAreOfAllTheirSteps, OutcomesAreOfTheirSteps, QuietRunsHaveNoHalt, RunsAloneStop, TrueBoundsHaveProofs, TruePlansLead, TrueRowsProve, TrueRowsProveBounds, UnsolvableTruthsHaveNoPlan, WithoutRowsMemoryWasRefused}
+use Rattle.hda_run.specs.Jobs.{JobModel, HasOneShape, task_in}
+use Rattle.hda_run.specs.Kinds.{step_kind_of}
+use Rattle.hda_run.specs.Laws.{BookChangesByFiveKinds, BoundsSpendTheLimit, BoundTruthsAreBelow, HaltsAreDue, JobsAreOfAnyShape, LanesChangeByTwoKinds, OtherLanesAreLeft, SentItemsArrive, OptimalTruthsAgree, OutcomesAreOfAllTheirSteps, OutcomesAreOfTheirSteps, QuietRunsHaveNoHalt, RunsAloneStop, TrueBoundsHaveProofs, TruePlansLead, TrueRowsProve, TrueRowsProveBounds, UnsolvableTruthsHaveNoPlan, WithoutRowsMemoryWasRefused}
 use Rattle.hda_run.proofs.AloneLemmas.{Made}
 
 -- ---- what one worker that is alone answers
@@ -249,3 +253,83 @@ of_steps job step outcome is = of_one job step outcome is.via is.made is.world i
 
 pub of_all_steps : OutcomesAreOfAllTheirSteps
 of_all_steps job steps outcome is = (is.via, is.made, is.world, is.same, is.run, is.given)
+
+-- ---- what a step of each kind changes
+
+pub lanes_by_kind : LanesChangeByTwoKinds
+lanes_by_kind (Expand i) it from to lane next changes = absurd (changes (lanes_are_left (Expand i) it from to lane next (λ h. h)))
+lanes_by_kind (Settle i) it from to lane next changes = absurd (changes (lanes_are_left (Settle i) it from to lane next (λ h. h)))
+lanes_by_kind (Send i j) it from to lane next changes = inl refl
+lanes_by_kind (Deliver i j) it from to lane next changes = inr refl
+lanes_by_kind (Draw i) it from to lane next changes = absurd (changes (lanes_are_left (Draw i) it from to lane next (λ h. h)))
+lanes_by_kind (Announce i) it from to lane next changes = absurd (changes (lanes_are_left (Announce i) it from to lane next (λ h. h)))
+lanes_by_kind (Grant i) it from to lane next changes = absurd (changes (lanes_are_left (Grant i) it from to lane next (λ h. h)))
+lanes_by_kind (Rest i) it from to lane next changes = absurd (changes (lanes_are_left (Rest i) it from to lane next (λ h. h)))
+lanes_by_kind (Halt i cause) it from to lane next changes = absurd (changes (lanes_are_left (Halt i cause) it from to lane next (λ h. h)))
+
+pub other_lanes : OtherLanesAreLeft
+other_lanes i j from to lane it (inl sends) other = lanes_are_left (Send i j) it from to lane sends other
+other_lanes i j from to lane it (inr takes) other = lanes_are_left (Deliver j i) it from to lane takes other
+
+pub book_by_kind : BookChangesByFiveKinds
+book_by_kind (Expand i) it next changes = absurd (changes (books_are_left (Expand i) it next (λ h. h)))
+book_by_kind (Settle i) it next changes = absurd (changes (books_are_left (Settle i) it next (λ h. h)))
+book_by_kind (Send i j) it next changes = absurd (changes (books_are_left (Send i j) it next (λ h. h)))
+book_by_kind (Deliver i j) it next changes = absurd (changes (books_are_left (Deliver i j) it next (λ h. h)))
+book_by_kind (Draw i) it next changes = inl refl
+book_by_kind (Announce i) it next changes = inr (inl refl)
+book_by_kind (Grant i) it next changes = inr (inr (inl refl))
+book_by_kind (Rest i) it next changes = inr (inr (inr (inl refl)))
+book_by_kind (Halt i cause) it next changes = inr (inr (inr (inr refl)))
+
+-- an accepted step changes what it says
+accepted : (step : Step) (w w' : WorldState) → Next step (turn w None w') → Accepts step w w'
+accepted step w w' next = by_case (next_cases step (turn w None w') next)
+  where
+    by_case : Cases (turn {F = Refusal} w None w') (Accepts step w w') → Accepts step w w'
+    by_case (inl out) = absurd (let e : ◌≡◌ {A = Option Refusal} None (Some out.0) = out.1.0 in cc)
+    by_case (inr done) = done.1
+
+-- there is one lane from one worker to another
+one_lane : (w : WorldState) (from to : ℕ) (lane lane' : Lane) → IsLane w from to lane → IsLane w from to lane' → lane ≡ lane'
+one_lane w from to lane lane' at at' =
+    let row : Some at.from_lanes ≡ Some at'.from_lanes = sym at.of_sender ∙ at'.of_sender in
+    let same : at.from_lanes ≡ at'.from_lanes = cc in
+    let both : Some lane ≡ Some lane' = sym at.of_receiver ∙ ap (λ (row : List Lane). slice_get row to) same ∙ at'.of_receiver in
+    cc
+
+-- and one worker of a number
+one_worker : (w : WorldState) (i : ℕ) (x y : WorkerState) → IsWorker w i x → IsWorker w i y → x ≡ y
+one_worker w i x y at at' = let both : Some x ≡ Some y = sym at ∙ at' in cc
+
+-- the only packet of a lane is the first
+only_first : (packet first : Packet) (rest : Lane) → packet ∷ [] ≡ first ∷ rest → packet ≡ first
+only_first packet first rest same = ap (λ (lane : Lane). get_or lane 0 []) same
+
+pub arrives : SentItemsArrive
+arrives i j w sent taken sender receiver at empty sends takes there =
+    let step = accepted (Send i j) w sent sends in
+    let take = accepted (Deliver j i) sent taken takes in
+    let mine : step.worker ≡ sender = one_worker w i step.worker sender step.at at in
+    let free : step.lane ≡ [] = one_lane w i j step.lane [] step.at_lane empty in
+    let filled : step.new.lane ≡ packet_for sender j ∷ [] =
+    ap (λ (x : _). x.lane) step.change.is ∙ (λ t. free t ++ packet_for (mine t) j ∷ []) in
+    let lane : IsLane sent i j step.new.lane =
+    subst (λ (v : WorldState). IsLane v i j step.new.lane) (sym step.is)
+    (lane_there w i step.new.worker w.book i j step.lane step.at_lane step.new.lane) in
+    let same : take.lane ≡ step.new.lane = one_lane sent i j take.lane step.new.lane take.at_lane lane in
+    let first : packet_for sender j ≡ take.change.packet =
+    only_first (packet_for sender j) take.change.packet take.change.rest (sym filled ∙ sym same ∙ take.change.first) in
+    let now : IsWorker taken j take.new.worker =
+    subst (λ (v : WorldState). IsWorker v j take.new.worker) (sym take.is)
+    (worker_there sent j take.worker take.at take.new.worker sent.book (with_lane sent.lanes i j take.new.lane)) in
+    let new : receiver ≡ take.new.worker = one_worker taken j receiver take.new.worker there now in
+    ap (λ (x : WorkerState). x.held) new ∙ ap (λ (x : _). x.worker.held) take.change.is ∙ sym first
+
+-- ---- the shapes of a job
+
+pub any_shape : JobsAreOfAnyShape
+any_shape start goal rule tables limit = (
+  λ one. (one.start_sides, one.rule_sides, one.table_sides),
+  λ same. record { start_sides = same.0; rule_sides = same.1; table_sides = same.2 },
+)

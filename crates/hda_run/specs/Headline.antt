@@ -26,13 +26,16 @@ abbrev pub IsTrueOfBest : JobModel → Option (ℕ × List Move) → Type 0
 IsTrueOfBest p None = ⊤
 IsTrueOfBest p (Some best) = Solves p best.1 best.0
 
--- What an outcome says is true. Optimal: the plan leads from the start to the goal at this cost, each plan that does costs at least as
--- much, and the rows prove that by themselves. Unsolvable: no plan leads there. Bounded: no plan costs less than the bound, the plan
--- beside it is one, and the rows prove the bound by themselves; where memory was refused it has neither, though such rows exist.
+-- What an outcome says is true. Optimal: the plan leads from the start to the goal at this cost, each plan that does
+-- costs at least as much, and the rows prove that by themselves. Unsolvable: no plan leads there. Bounded: no plan
+-- costs less than the bound, the plan beside it is one, and the rows prove the bound by themselves; where memory was
+-- refused it has neither, though such rows exist.
 abbrev pub TellsTruth : JobModel → Outcome → Type 0
-TellsTruth p (Optimal cost plan rows) = Solves p plan.items cost × NoneIsBelow p cost × AreRowsOf (task_in p) rows.items cost
+TellsTruth p (Optimal cost plan rows) =
+    Solves p plan.items cost × NoneIsBelow p cost × AreRowsOf (task_in p) rows.items cost
 TellsTruth p (Unsolvable why) = (plan : List Move) (cost : ℕ) → ¬ Solves p plan cost
-TellsTruth p (Bounded bound best cause (Some rows)) = NoneIsBelow p bound × IsTrueOfBest p (best_of best) × AreRowsOf (task_in p) rows.items bound
+TellsTruth p (Bounded bound best cause (Some rows)) = NoneIsBelow p bound × IsTrueOfBest p (best_of best)
+    × AreRowsOf (task_in p) rows.items bound
 TellsTruth p (Bounded bound best cause None) = NoneIsBelow p bound × StandsAlone best cause × HasProof (task_in p) bound
 
 -- these steps, with some answers, lead from the opening world to one that gives the outcome

@@ -9,7 +9,8 @@ use Rattle.world_model.specs.Shapes.{IsTask}
 use Rattle.worker_core.specs.Contexts.{ContextModel, context_of}
 use Rattle.worker_core.specs.Roles.{task_of}
 
--- the plans from the start to the goal under a cost rule, tables by which the search is guided, and how many boards may be expanded
+-- the plans from the start to the goal under a cost rule, tables by which the search is guided, and how many boards may
+-- be expanded
 pub record JobModel : Type 0 where
   pub start : BoardModel
   pub goal : BoardModel
@@ -19,7 +20,13 @@ pub record JobModel : Type 0 where
 
 -- the four parts of a problem, and the limit
 abbrev pub problem : BoardModel → BoardModel → WeightsModel → BoundModel → ℕ → JobModel
-problem start goal rule tables limit = record { start = start; goal = goal; rule = rule; tables = tables; limit = limit }
+problem start goal rule tables limit = record {
+  start = start;
+  goal = goal;
+  rule = rule;
+  tables = tables;
+  limit = limit;
+}
 
 -- what is asked
 abbrev pub task_in : JobModel → Task
@@ -35,8 +42,8 @@ pub record HasOneShape (p : JobModel) : Type 0 where
   pub rule_sides : p.rule.grid ≡ p.goal.grid
   pub table_sides : p.tables.split.grid ≡ p.goal.grid
 
--- The task is one, and the tables have its sides. The entries of each table are a potential, or were folded from one, so the sum of their
--- values is never above the cost of a plan.
+-- The task is one, and the tables have its sides. The entries of each table are a potential, or were folded from one,
+-- so the sum of their values is never above the cost of a plan.
 pub record IsProblem (p : JobModel) : Type 0 where
   pub task : IsTask (task_in p)
   pub sides : p.tables.split.grid ≡ p.goal.grid

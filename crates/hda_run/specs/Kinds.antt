@@ -3,7 +3,8 @@ use Rattle.std.specs.Prelude.{ℕ, ◌≡◌, ◌≤◌, ◌⊎◌}
 use Rattle.world_model.specs.declared.steps.Step.{Step}
 use Rattle.world_model.specs.declared.steps.Step.TheVariants as steps
 use Rattle.hda_run.specs.declared.gates.Kind.{Kind}
-use Rattle.hda_run.specs.declared.gates.Kind.TheVariants.{Expand, Settle, Send, Deliver, Draw, Announce, Grant, Rest, Halt}
+use Rattle.hda_run.specs.declared.gates.Kind.TheVariants.{Expand, Settle, Send, Deliver, Draw}
+use Rattle.hda_run.specs.declared.gates.Kind.TheVariants.{Announce, Grant, Rest, Halt}
 
 -- which of the nine steps it is
 abbrev pub step_kind_of : Step → Kind

@@ -20,7 +20,8 @@ use Rattle.hda_run.specs.Alone.{HaltsNowhere, AreLast}
 use Rattle.hda_run.specs.Headline.{NoneIsBelow}
 use Rattle.hda_run.specs.Worlds.{world_of, WaitsFrom}
 
--- one worker, which holds nothing, has nothing to send, and has a purse of 1; no packet is in a lane, and the run goes on
+-- one worker, which holds nothing, has nothing to send, and has a purse of 1; no packet is in a lane, and the run goes
+-- on
 pub record IsLone (w : WorldState) : Type 0 where
   pub worker : WorkerState
   pub is : w.workers ≡ worker ∷ []
@@ -41,12 +42,14 @@ pub record Reaches (w w' : WorldState) : Type 0 where
 
 -- the worker knows the goal, or there is no frontier
 abbrev pub IsWithoutBound : WorldState → Type 0
-IsWithoutBound w = ((known : Known) × Knows w 0 w.task.goal known) ⊎ ((b : BoardModel) (cost : ℕ) → ¬ IsInFrontier w b cost)
+IsWithoutBound w = ((known : Known) × Knows w 0 w.task.goal known)
+    ⊎ ((b : BoardModel) (cost : ℕ) → ¬ IsInFrontier w b cost)
 
 -- the least f of what waits, and no plan costs less; None where there is no bound
 abbrev pub IsBoundSoFar : {S : Type 0} → (S → ℕ → BoardModel → ℕ) → Parts S → Option ℕ → Type 0
 IsBoundSoFar owner_of parts None = IsWithoutBound (world_of owner_of parts)
-IsBoundSoFar owner_of parts (Some f) = NoneIsBelow parts.job f × All (λ worker. WaitsFrom worker.lists f) parts.workers.items
+IsBoundSoFar owner_of parts (Some f) = NoneIsBelow parts.job f
+    × All (λ worker. WaitsFrom worker.lists f) parts.workers.items
 
 -- what may still be granted, and what may still be expanded
 abbrev pub work_left : WorldState → ℕ

@@ -8,7 +8,8 @@ use Rattle.outcomes.specs.declared.outcome.Ending.TheVariants.{Optimal, Unsolvab
 use Rattle.outcomes.specs.declared.outcome.Outcome.{Outcome}
 use Rattle.outcomes.specs.Endings.{without_rows}
 
--- the cause is that of a run that stopped by itself: it was not cut, each thread was started, and no list of steps said that memory was refused
+-- the cause is that of a run that stopped by itself: it was not cut, each thread was started, and no list of steps said
+-- that memory was refused
 abbrev pub IsOfWholeRun : Cause → Type 0
 IsOfWholeRun cause = (cause ≢ Cut) × (cause ≢ Start) × (cause ≢ Memory Stated)
 

@@ -25,7 +25,8 @@ world_of owner_of parts = record {
 
 -- the lists of each worker are guided to the goal
 abbrev pub AreGuided : {S : Type 0} → Parts S → Type 0
-AreGuided parts = All (λ worker. IsGuided (task_in parts.job) (guide_of (task_in parts.job)) worker.lists) parts.workers.items
+AreGuided parts =
+    All (λ worker. IsGuided (task_in parts.job) (guide_of (task_in parts.job)) worker.lists) parts.workers.items
 
 -- what a world keeps, whatever steps are taken in it: it is shaped, sound and credited, and its workers are guided
 pub record IsLawful {S : Type 0} (owner_of : S → ℕ → BoardModel → ℕ) (parts : Parts S) : Type 0 where
@@ -36,11 +37,13 @@ pub record IsLawful {S : Type 0} (owner_of : S → ℕ → BoardModel → ℕ) (
 
 -- something waits at f, and nothing below it
 abbrev pub WaitsFrom : SearchListsModel → ℕ → Type 0
-WaitsFrom lists f = (slice_index_or lists.waiting.entries f [] ≢ []) × ((h : ℕ) → h < f → slice_index_or lists.waiting.entries h [] ≡ [])
+WaitsFrom lists f = (slice_index_or lists.waiting.entries f [] ≢ [])
+    × ((h : ℕ) → h < f → slice_index_or lists.waiting.entries h [] ≡ [])
 
 -- what n workers do, where boards have these owners, by the spread and the number of workers
 abbrev pub job_of : {S : Type 0} → (S → ℕ → BoardModel → ℕ) → JobModel → S → ℕ → Job
-job_of owner_of p owners workers = record { task = task_in p; limit = p.limit; count = workers; owner = owner_of owners workers }
+job_of owner_of p owners workers =
+    record { task = task_in p; limit = p.limit; count = workers; owner = owner_of owners workers }
 
 -- there are workers, but not too many
 abbrev pub IsWorkerCount : ℕ → Type 0

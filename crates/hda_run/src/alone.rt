@@ -21,7 +21,7 @@ ghost use Rattle.hda_run.specs.Alone.{IsRunAlone, IsFoundAlone};
 ghost use Rattle.hda_run.specs.Jobs.{task_in};
 ghost use Rattle.hda_run.specs.Rounds.{IsLone, Reaches, work_left, RefusesStep, IsStuck};
 ghost use Rattle.hda_run.specs.Rounds.{IsBoundSoFar, Stops};
-ghost use Rattle.hda_run.specs.WholeRuns.{EndsWholeRun};
+ghost use Rattle.hda_run.specs.WholeRuns.{EndsWholeRun, HasWholeRun};
 ghost use Rattle.hda_run.specs.Worlds.{world_of, job_of};
 
 use crate::gates::{Gate, kind_of};
@@ -64,6 +64,7 @@ pub fn solve_one<'a, S: Spread, G: Gate>(
     ensures kept { IfOk result (λ outcome. (bound : ℕ) (best : Option (ℕ × Vec Move Global))
         (cause : Cause) (rows : Option (Vec (BoardModel × ℕ) Global))
         → outcome ≡ Bounded bound best cause rows → (cause ≢ Cut) × (cause ≢ Start)) }
+    ensures whole { IfOk result HasWholeRun }
 {
     read_one::<WithRows, S, G>(alloc, job, spread, gate)
 }
