@@ -67,6 +67,7 @@ pub fn read_bounds_are_of_worlds<A: Reading>()
 }
 
 /// The ending that a sound world gives answers its task.
+#[tactic(auto, using(crate::proofs::PartLemmas::ends_answer))]
 pub fn endings_answer()
     ensures { EndingsAnswer }
 {
