@@ -21,6 +21,7 @@ ghost use Rattle.std.specs.Prelude.{◌≡◌};
 use crate::answering::Ruled;
 
 /// What is written of the answers of a truthful solver tells the truth of each line.
+#[tactic(auto, using(crate::proofs::TruthLemmas::truth))]
 pub fn answers_tell_the_truth<A: Ruled>(asked: &A)
     ensures { AnswersTellTheTruth (A.rules asked.now) }
 {
@@ -29,30 +30,41 @@ pub fn answers_tell_the_truth<A: Ruled>(asked: &A)
 
 /// Where the input is known and the output was empty, what a run that ends well leaves there tells
 /// the truth of the input's lines. Where an output tells the truth, each of its lines is read, and
-/// no report is missing. A line that names a board is refused by V3 alone, or what is reported of
-/// it is true of that board. One with a fault is refused by the code of the fault. The number of a
-/// line counts those that are passed over. What is true of a board says a least plan, or that there
-/// is none, or a bound; and a best plan beside the bound leads to the goal. Where all lines of an
-/// output are decided, none is refused or bounded.
+/// no report is missing.
 pub fn outputs_tell_the_truth<A: Ruled>(asked: &A)
     ensures truth { BatchOutputsTellTheTruth (A.rules asked.now) }
     ensures lines { OutputLinesAreRead (A.rules asked.now) }
     ensures silence { SilenceIsNoTruth (A.rules asked.now) }
-    ensures boards { RefusedBoardsLackMemory (A.rules asked.now) }
-    ensures faults { RefusedLinesAreFaulty (A.rules asked.now) }
-    ensures told { AnsweredBoardsAreTold (A.rules asked.now) }
-    ensures no_ending { FaultyLinesHaveNoEnding (A.rules asked.now) }
-    ensures numbers { LinesPassedOverAreCounted }
-    ensures answered { BoardsAreAnswered }
-    ensures best { BestPlansLead }
-    ensures accepted { DecidedLinesAreAccepted }
-    ensures settled { DecidedLinesAreSettled }
 {
     let _ = asked;
 }
 
+/// What an output that tells the truth says of a line. A line that names a board is refused by V3
+/// alone, or what is reported of it is true of that board. One with a fault is refused by the code
+/// of the fault. The number of a line counts those that are passed over.
+pub fn reports_fit_their_lines<A: Ruled>(asked: &A)
+    ensures boards { RefusedBoardsLackMemory (A.rules asked.now) }
+    ensures faults { RefusedLinesAreFaulty (A.rules asked.now) }
+    ensures endings { AnsweredBoardsAreTold (A.rules asked.now) }
+    ensures no_ending { FaultyLinesHaveNoEnding (A.rules asked.now) }
+    ensures numbers { LinesPassedOverAreCounted }
+{
+    let _ = asked;
+}
+
+/// What is true of a board says a least plan, or that there is none, or a bound; and a best plan
+/// beside the bound leads to the goal. Where all lines of an output are decided, none is refused or
+/// bounded.
+pub fn reports_answer_boards()
+    ensures answered { BoardsAreAnswered }
+    ensures best { BestPlansLead }
+    ensures accepted { DecidedLinesAreAccepted }
+    ensures settled { DecidedLinesAreSettled }
+{}
+
 /// Where the input is known and the output was empty, what a run that ends early leaves there is a
 /// beginning of what tells the truth of the input's first lines.
+#[tactic(auto, using(crate::proofs::BatchLemmas::beginnings_true))]
 pub fn beginnings_tell_the_truth<A: Ruled>(asked: &A)
     ensures { BeginningsTellTheTruth (A.rules asked.now) }
 {
@@ -87,7 +99,6 @@ pub fn lines_are_lost_to_failures()
 /// A report of an ending that is true of a board says the truth of its plans: one is least, there
 /// is none, or none costs less than the bound. The reason and the cause that it names are true. It
 /// has the name of the board's line.
-#[tactic(auto, using(crate::proofs::TruthLemmas::reported_least, crate::proofs::TruthLemmas::reported_none, crate::proofs::TruthLemmas::reported_why, crate::proofs::TruthLemmas::reported_bound, crate::proofs::TruthLemmas::reported_cause, crate::proofs::TruthLemmas::reported_name))]
 pub fn reports_tell_of_plans()
     ensures optimal { OptimalReportsAreLeast }
     ensures unsolvable { UnsolvableReportsHaveNoPlan }
