@@ -15,12 +15,29 @@ use Rattle.batch_lines.specs.declared.lines.LineKind.TheVariants.{PassedOver, Wi
 use Rattle.batch_lines.specs.declared.lines.TheConstants.{INPUT_LIMIT}
 use Rattle.batch_runs.specs.Batches.{Rules, Answer, AnswersEntry, AnswersKind, AnswersLine, AnswersLines, answer_text, answers_text, with_answer, with_answers, no_lines, AreRead, AreFirst, TakesSome, ReportsFirst, ReportsSome, IsTruthful, ReportsLines, status_of_counts, AreAll, IsTooLong}
 use Rattle.batch_runs.specs.Batches.Answer.{passed_over, refused, answered}
+use Rattle.batch_runs.specs.Stats.{HandsOver, HandsAllOver, HandsFigures}
 use Rattle.batch_runs.specs.declared.batch.Summary.{Summary}
+use Rattle.batch_runs.specs.declared.stats.Solved.{Solved}
+use Rattle.board.specs.Boards.{BoardModel}
 use Rattle.batch_runs.specs.Headline.{IsTrueRun, TellsTheTruth, BatchOutputsTellTheTruth, BeginningsTellTheTruth}
 use Rattle.batch_runs.specs.declared.faults.LinesFault.{LinesFault}
 use Rattle.batch_runs.specs.declared.faults.LinesFault.TheVariants.{Read, Write, Memory}
-use Rattle.batch_runs.specs.Laws.{BatchLinesAreLostToFailures, OutputsAreAnswers, FailedWritesAreTold, WriteFaultsAreFailures, ReadFaultsAreFailures}
-use Rattle.batch_runs.proofs.TruthLemmas.{truth, settled}
+use Rattle.batch_runs.specs.Laws.{BatchLinesAreLostToFailures, OutputsAreAnswers, FailedWritesAreTold, WriteFaultsAreFailures, ReadFaultsAreFailures, FiguresBelongToReports}
+use Rattle.batch_runs.proofs.TruthLemmas.{truth, settled, report_first, kind_over, kind_asks, no_refusal, data_or, letters_in}
+use Rattle.std.specs.Prelude.{not}
+use Rattle.serde_json.specs.Data.{Data}
+use Rattle.serde_json.specs.Read.{read}
+use Rattle.serde_json.specs.Written.{compact_text}
+use Rattle.reports.specs.Reports.{outcome_data, refused_data}
+use Rattle.reports.specs.Readings.{IsReport, IsSmall, HasSmallNumbers, Reads, HasStatus}
+use Rattle.reports.specs.Readings.IsReport.{of_outcome, of_line}
+use Rattle.reports.proofs.ReadLemmas.{report_read}
+use Rattle.serde_json.specs.Find.{get}
+use Rattle.batch_lines.specs.Lines.{is_passed_over, line_kind_of}
+use Rattle.batch_lines.specs.Words.{IsEntry}
+use Rattle.batch_runs.specs.Meanings.{asks, questions, IsReply}
+use Rattle.outcomes.specs.declared.outcome.Ending.{Ending}
+use Rattle.batch_runs.specs.Batches.AnswersEntry.{by_fault, by_outcome, by_want}
 
 -- ---- the reports of lines, one line after the other: one answer more
 
@@ -62,6 +79,20 @@ pub too_long : (rules : Rules) (kind : LineKind) (bytes : List ℕ) → kind ≢
 too_long rules PassedOver bytes here long = absurd (here refl)
 too_long rules Within bytes here long = absurd (long refl)
 too_long rules TooLong bytes here long = refl
+
+-- so are the figures that were handed over for it
+pub hands_is : (rules : Rules) (handed : List ℕ → BoardModel → Solved → Type 0) (line : List ℕ) (kind : LineKind) (kept : List ℕ) (answer : Answer) → IsJudged line kind kept → AnswersKind rules kind kept answer → HandsOver rules.grid handed kept answer → HandsOver rules.grid handed (without_return line) answer
+hands_is rules handed line kind kept passed_over judged is hands = tt
+hands_is rules handed line kind kept (refused code) judged is hands = tt
+hands_is rules handed line PassedOver kept (answered id ending) judged is hands = absurd (cc)
+hands_is rules handed line TooLong kept (answered id ending) judged is hands = absurd (cc)
+hands_is rules handed line Within kept (answered id ending) judged is hands = subst (λ (bytes : List ℕ). HandsOver rules.grid handed bytes (answered id ending)) (judged.whole refl) hands
+
+HandsAllOver-more : (rules : Rules) (handed : List ℕ → BoardModel → Solved → Type 0) (lines : List (List ℕ)) (answers : List Answer) (line : List ℕ) (answer : Answer) → AnswersLines rules lines answers → HandsAllOver rules.grid handed lines answers → HandsOver rules.grid handed (without_return line) answer → HandsAllOver rules.grid handed (lines ++ line ∷ []) (answers ++ answer ∷ [])
+HandsAllOver-more rules handed [] [] line answer are before now = (now, tt)
+HandsAllOver-more rules handed [] (other ∷ answers) line answer are before now = absurd are
+HandsAllOver-more rules handed (next ∷ lines) [] line answer are before now = absurd are
+HandsAllOver-more rules handed (next ∷ lines) (first ∷ answers) line answer are before now = (before.0, HandsAllOver-more rules handed lines answers line answer are.1 before.1 now)
 
 -- ---- how many lines are counted
 
@@ -105,7 +136,7 @@ TakesSome-line a b c line before taken =
     (before.0 ++ now.0, Consumes-trans a.left b.left c.left before.0 now.0 before.1 now.1)
 
 -- the reports of the lines that were read are written
-pub record IsRunning (rules : Rules) (source : Change SourceState) (sink : Change SinkState) (numbered : ℕ) (counts : Summary) : Type 0 where
+pub record IsRunning (rules : Rules) (handed : List ℕ → BoardModel → Solved → Type 0) (source : Change SourceState) (sink : Change SinkState) (numbered : ℕ) (counts : Summary) : Type 0 where
   pub lines : List (List ℕ)
   pub answers : List Answer
   pub read : AreRead source.before.left source.after.left lines
@@ -116,10 +147,11 @@ pub record IsRunning (rules : Rules) (source : Change SourceState) (sink : Chang
   pub at : numbered ≡ length lines
   pub few : length lines < 2 ^ 64
   pub counted_few : total counts ≤ numbered
+  pub figures : HandsAllOver rules.grid handed lines answers
 
 -- nothing is read yet
-pub IsRunning-none : (rules : Rules) (a : SourceState) (x : SinkState) → IsRunning rules (from_to a a) (from_to x x) 0 no_lines
-IsRunning-none rules a x = record {
+pub IsRunning-none : (rules : Rules) (handed : List ℕ → BoardModel → Solved → Type 0) (a : SourceState) (x : SinkState) → IsRunning rules handed (from_to a a) (from_to x x) 0 no_lines
+IsRunning-none rules handed a x = record {
   lines = [];
   answers = [];
   read = none a.left;
@@ -130,6 +162,7 @@ IsRunning-none rules a x = record {
   at = refl;
   few = omega arith;
   counted_few = omega arith;
+  figures = tt;
 }
   where
     none : (input : Option (List ℕ)) → AreRead input input []
@@ -137,7 +170,7 @@ IsRunning-none rules a x = record {
     none (Some bytes) = refl
 
 -- a line is read, which is judged so and has this answer
-pub record IsNext (rules : Rules) (source : Change SourceState) (numbered n : ℕ) (answer : Answer) : Type 0 where
+pub record IsNext (rules : Rules) (handed : List ℕ → BoardModel → Solved → Type 0) (source : Change SourceState) (numbered n : ℕ) (answer : Answer) : Type 0 where
   pub line : List ℕ
   pub kind : LineKind
   pub kept : List ℕ
@@ -146,11 +179,12 @@ pub record IsNext (rules : Rules) (source : Change SourceState) (numbered n : �
   pub number : n ≡ numbered + 1
   pub small : n < 2 ^ 64
   pub is : AnswersKind rules kind kept answer
+  pub figures : HandsOver rules.grid handed kept answer
 
 -- one line more was read and its report is written
-pub IsRunning-more : (rules : Rules) (a b c : SourceState) (x y z : SinkState) (numbered n : ℕ) (counts : Summary) (answer : Answer) → IsRunning rules (from_to a b) (from_to x y) numbered counts → IsNext rules (from_to b c) numbered n answer → Puts (from_to y z) (answer_text n answer)
-    → IsRunning rules (from_to a c) (from_to x z) n (with_answer counts answer)
-IsRunning-more rules a b c x y z numbered n counts answer running next put =
+pub IsRunning-more : (rules : Rules) (handed : List ℕ → BoardModel → Solved → Type 0) (a b c : SourceState) (x y z : SinkState) (numbered n : ℕ) (counts : Summary) (answer : Answer) → IsRunning rules handed (from_to a b) (from_to x y) numbered counts → IsNext rules handed (from_to b c) numbered n answer → Puts (from_to y z) (answer_text n answer)
+    → IsRunning rules handed (from_to a c) (from_to x z) n (with_answer counts answer)
+IsRunning-more rules handed a b c x y z numbered n counts answer running next put =
     let as_many = AnswersLines-length rules running.lines running.answers running.answered in
     let at : n ≡ 1 + length running.answers = omega (arith, running.at, next.number, as_many) in
     let longer = length-append running.lines (next.line ∷ []) in
@@ -166,12 +200,13 @@ IsRunning-more rules a b c x y z numbered n counts answer running next put =
       at = omega (arith, running.at, next.number, longer);
       few = omega (arith, running.at, next.number, next.small, longer);
       counted_few = omega (arith, running.counted_few, next.number, counted_once counts answer);
+      figures = HandsAllOver-more rules handed running.lines running.answers next.line answer running.answered running.figures (hands_is rules handed next.line next.kind next.kept answer next.judged next.is next.figures);
     }
 
 -- the report of one line more is written in part
-pub reports_part : (rules : Rules) (a b c : SourceState) (x y z : SinkState) (numbered n : ℕ) (counts : Summary) (answer : Answer) → IsRunning rules (from_to a b) (from_to x y) numbered counts → IsNext rules (from_to b c) numbered n answer → PutsBeginning (from_to y z) (answer_text n answer)
+pub reports_part : (rules : Rules) (handed : List ℕ → BoardModel → Solved → Type 0) (a b c : SourceState) (x y z : SinkState) (numbered n : ℕ) (counts : Summary) (answer : Answer) → IsRunning rules handed (from_to a b) (from_to x y) numbered counts → IsNext rules handed (from_to b c) numbered n answer → PutsBeginning (from_to y z) (answer_text n answer)
     → ReportsSome rules (from_to a c) (from_to x z)
-reports_part rules a b c x y z numbered n counts answer running next begun =
+reports_part rules handed a b c x y z numbered n counts answer running next begun =
     let as_many = AnswersLines-length rules running.lines running.answers running.answered in
     let at : n ≡ 1 + length running.answers = omega (arith, running.at, next.number, as_many) in
     let longer = length-append running.lines (next.line ∷ []) in
@@ -186,8 +221,8 @@ reports_part rules a b c x y z numbered n counts answer running next begun =
     }
 
 -- nothing of the next line is written
-pub reports_so_far : (rules : Rules) (a b c : SourceState) (x y : SinkState) (numbered : ℕ) (counts : Summary) → IsRunning rules (from_to a b) (from_to x y) numbered counts → ReportsFirst rules (from_to a c) (from_to x y)
-reports_so_far rules a b c x y numbered counts running = record {
+pub reports_so_far : (rules : Rules) (handed : List ℕ → BoardModel → Solved → Type 0) (a b c : SourceState) (x y : SinkState) (numbered : ℕ) (counts : Summary) → IsRunning rules handed (from_to a b) (from_to x y) numbered counts → ReportsFirst rules (from_to a c) (from_to x y)
+reports_so_far rules handed a b c x y numbered counts running = record {
   lines = running.lines;
   answers = running.answers;
   few = running.few;
@@ -196,10 +231,38 @@ reports_so_far rules a b c x y numbered counts running = record {
   written = running.written;
 }
 
+-- so are the figures of these lines handed over
+pub hands_so_far : (rules : Rules) (handed : List ℕ → BoardModel → Solved → Type 0) (a b : SourceState) (x y : SinkState) (numbered : ℕ) (counts : Summary) → IsRunning rules handed (from_to a b) (from_to x y) numbered counts → HandsFigures rules handed a.left (from_to x y)
+hands_so_far rules handed a b x y numbered counts running = record {
+  lines = running.lines;
+  answers = running.answers;
+  few = running.few;
+  first = AreFirst-read a.left b.left running.lines running.read;
+  answered = running.answered;
+  begun = record { sent = answers_text 1 running.answers; unsent = []; parts = sym (append-nil (answers_text 1 running.answers)); put = running.written };
+  figures = running.figures;
+}
+
+-- and those of the line whose report is written in part
+pub hands_part : (rules : Rules) (handed : List ℕ → BoardModel → Solved → Type 0) (a b c : SourceState) (x y z : SinkState) (numbered n : ℕ) (counts : Summary) (answer : Answer) → IsRunning rules handed (from_to a b) (from_to x y) numbered counts → IsNext rules handed (from_to b c) numbered n answer → PutsBeginning (from_to y z) (answer_text n answer)
+    → HandsFigures rules handed a.left (from_to x z)
+unfolding reports_part
+hands_part rules handed a b c x y z numbered n counts answer running next begun =
+    let part = reports_part rules handed a b c x y z numbered n counts answer running next begun in
+    record {
+      lines = part.lines;
+      answers = part.answers;
+      few = part.few;
+      first = part.first;
+      answered = part.answered;
+      begun = part.begun;
+      figures = HandsAllOver-more rules handed running.lines running.answers next.line answer running.answered running.figures (hands_is rules handed next.line next.kind next.kept answer next.judged next.is next.figures);
+    }
+
 -- a line more was read that is passed over
-pub IsRunning-passed : (rules : Rules) (a b c : SourceState) (x y : SinkState) (numbered n : ℕ) (counts : Summary) (line kept : List ℕ) (kind : LineKind) → IsRunning rules (from_to a b) (from_to x y) numbered counts → TakesLine (from_to b c) line → IsJudged line kind kept → n ≡ numbered + 1 → n < 2 ^ 64 → kind ≡ PassedOver → IsRunning rules (from_to a c) (from_to x y) n counts
-IsRunning-passed rules a b c x y numbered n counts line kept kind running taken judged number small over =
-    IsRunning-more rules a b c x y y numbered n counts passed_over running (record { line = line; kind = PassedOver; kept = kept; taken = taken; judged = subst (λ (k : LineKind). IsJudged line k kept) over judged; number = number; small = small; is = refl }) (Appends-nil y.contents)
+pub IsRunning-passed : (rules : Rules) (handed : List ℕ → BoardModel → Solved → Type 0) (a b c : SourceState) (x y : SinkState) (numbered n : ℕ) (counts : Summary) (line kept : List ℕ) (kind : LineKind) → IsRunning rules handed (from_to a b) (from_to x y) numbered counts → TakesLine (from_to b c) line → IsJudged line kind kept → n ≡ numbered + 1 → n < 2 ^ 64 → kind ≡ PassedOver → IsRunning rules handed (from_to a c) (from_to x y) n counts
+IsRunning-passed rules handed a b c x y numbered n counts line kept kind running taken judged number small over =
+    IsRunning-more rules handed a b c x y y numbered n counts passed_over running (record { line = line; kind = PassedOver; kept = kept; taken = taken; judged = subst (λ (k : LineKind). IsJudged line k kept) over judged; number = number; small = small; is = refl; figures = tt }) (Appends-nil y.contents)
 
 -- all was written, and then passed on; or that failed
 pub Writes-flushed : (a b c : SinkState) (bytes : List ℕ) (result : Result (Unit {0}) WriteFailed) → WritesAll (from_to a b) bytes → Flushes (from_to b c) result → Writes (from_to a c) bytes result
@@ -323,3 +386,105 @@ write_failed rules source sink (some, readable, failed) = failed
 
 pub read_failed : (rules : Rules) → ReadFaultsAreFailures rules
 read_failed rules source sink input is short (whole, kept) = lost source whole.lines input is short whole.lost
+
+-- ---- figures belong to reports
+
+-- the questions of the first lines are those of all lines
+front_either : (b : Bool) (first q : ℕ × List ℕ) (xs ys : List (ℕ × List ℕ)) (k : ℕ) → ((j : ℕ) → slice_get xs j ≡ Some q → slice_get ys j ≡ Some q) → slice_get (cond b (first ∷ xs) xs) k ≡ Some q → slice_get (cond b (first ∷ ys) ys) k ≡ Some q
+front_either true first q xs ys zero same e = e
+front_either true first q xs ys (suc k) same e = same k e
+front_either false first q xs ys k same e = same k e
+
+questions_front : (n : ℕ) (lines more : List (List ℕ)) (k : ℕ) (q : ℕ × List ℕ) → slice_get (questions n lines) k ≡ Some q → slice_get (questions n (lines ++ more)) k ≡ Some q
+questions_front n [] more k q e = absurd (cc)
+questions_front n (line ∷ lines) more k q e = front_either (asks line) (n, line) q (questions (n + 1) lines) (questions (n + 1) (lines ++ more)) k (λ j. questions_front (n + 1) lines more j q) e
+
+-- an answer that names an ending has numbers that a report can state
+small_answer : (rules : Rules) (kind : LineKind) (bytes id : List ℕ) (ending : Ending) → AnswersKind rules kind bytes (answered id ending) → HasSmallNumbers ending
+small_answer rules PassedOver bytes id ending is = absurd (cc)
+small_answer rules TooLong bytes id ending is = absurd (cc)
+small_answer rules Within bytes id ending (by_outcome _ b _ entry allowed small) = small
+
+-- a line that is to be read isn't answered as one that is passed over
+entry_not_over : (rules : Rules) (bytes : List ℕ) (answer : Answer) → AnswersEntry rules bytes answer → answer ≢ passed_over
+entry_not_over rules bytes answer (by_fault fault first) e = absurd (cc)
+entry_not_over rules bytes answer (by_outcome id b ending entry allowed small) e = absurd (cc)
+entry_not_over rules bytes answer (by_want id b entry lacking) e = absurd (cc)
+
+-- nor is one that asks
+not_over : (rules : Rules) (kind : LineKind) (bytes : List ℕ) → (kind ≡ TooLong) ⊎ (kind ≡ Within) → ¬ AnswersKind rules kind bytes passed_over
+not_over rules PassedOver bytes (inl e) is = absurd (cc)
+not_over rules PassedOver bytes (inr e) is = absurd (cc)
+not_over rules TooLong bytes asks is = absurd (cc)
+not_over rules Within bytes asks is = entry_not_over rules bytes passed_over is refl
+
+-- what is read of a line is what was written there
+read_there : (d e : Data) (line : List ℕ) → IsReport d → Some (compact_text d) ≡ Some line → Reads line e → d ≡ e
+read_there d e line is here reads = ap (data_or) (sym (report_read d is) ∙ ap (λ (o : Option (List ℕ)). read (line_or o)) here ∙ reads)
+
+-- the id that a report names
+abbrev id_in : Data → List ℕ
+id_in d = letters_in (get (codes "id") d)
+
+own_id : (id : List ℕ) (ending : Ending) → id_in (outcome_data id ending) ≡ id
+own_id id (Optimal cost plan) = refl
+own_id id (Unsolvable why) = refl
+own_id id (Bounded bound best cause) = refl
+
+module _ (rules : Rules) (handed : List ℕ → BoardModel → Solved → Type 0) where
+  -- the k-th line that asks has figures with this id, beside an ending that has this report
+  abbrev Belong : List (ℕ × List ℕ) → ℕ → List ℕ → Ending → Type 0
+  Belong qs k id ending =
+      (n : ℕ) × (line : List ℕ) × (b : BoardModel) × (solved : Solved)
+      × (slice_get qs k ≡ Some (n, line)) × IsEntry rules.grid (without_return line) id b
+      × handed id b solved × (outcome_data id solved.ending ≡ outcome_data id ending)
+
+  abbrev AllBelong : List (ℕ × List ℕ) → List (List ℕ) → Type 0
+  AllBelong qs output = (k : ℕ) (id line : List ℕ) (ending : Ending) → slice_get output k ≡ Some line → Reads line (outcome_data id ending) → Belong qs k id ending
+
+  belongs_here : (n : ℕ) (line : List ℕ) (qs : List (ℕ × List ℕ)) (answer : Answer) (rest : List (List ℕ)) → IsSmall n → AnswersLine rules line answer → HandsOver rules.grid handed (without_return line) answer → (line_kind_of line ≡ TooLong) ⊎ (line_kind_of line ≡ Within) → AllBelong qs rest → (text : List ℕ) → lines_of text ≡ rest → AllBelong ((n, line) ∷ qs) (lines_of (answer_text n answer ++ text))
+  belongs_here n line qs passed_over rest small is hands asking others text same = absurd (not_over rules (line_kind_of line) (without_return line) asking is)
+  belongs_here n line qs (refused code) rest small is hands asking others text same =
+      subst (AllBelong ((n, line) ∷ qs)) (sym (report_first (refused_data code n) text ∙ ap (λ (ls : List (List ℕ)). compact_text (refused_data code n) ∷ ls) same)) at
+    where
+      at : AllBelong ((n, line) ∷ qs) (compact_text (refused_data code n) ∷ rest)
+      at zero id l ending here reads = absurd (no_refusal id ending (subst (λ (d : Data). HasStatus d (codes "refused")) (read_there (refused_data code n) (outcome_data id ending) l (of_line code n small) here reads) refl))
+      at (suc k) id l ending here reads = others k id l ending here reads
+  belongs_here n line qs (answered name outcome) rest small is (b, solved, entry, given, same_ending) asking others text same =
+      subst (AllBelong ((n, line) ∷ qs)) (sym (report_first (outcome_data name outcome) text ∙ ap (λ (ls : List (List ℕ)). compact_text (outcome_data name outcome) ∷ ls) same)) at
+    where
+      at : AllBelong ((n, line) ∷ qs) (compact_text (outcome_data name outcome) ∷ rest)
+      at zero id l ending here reads =
+          let fits = small_answer rules (line_kind_of line) (without_return line) name outcome is in
+          let e = read_there (outcome_data name outcome) (outcome_data id ending) l (of_outcome name outcome fits) here reads in
+          let named : name ≡ id = sym (own_id name outcome) ∙ ap id_in e ∙ own_id id ending in
+          (n, line, b, solved, refl, subst (λ (i : List ℕ). IsEntry rules.grid (without_return line) i b) named entry, subst (λ (i : List ℕ). handed i b solved) named given, ap (outcome_data id) same_ending ∙ ap (λ (i : List ℕ). outcome_data i outcome) (sym named) ∙ e)
+      at (suc k) id l ending here reads = others k id l ending here reads
+
+  belongs_next : (n : ℕ) (line : List ℕ) (lines : List (List ℕ)) (answer : Answer) (text : List ℕ) → IsSmall n → AnswersLine rules line answer → HandsOver rules.grid handed (without_return line) answer → AllBelong (questions (n + 1) lines) (lines_of text) → (over : Bool) → is_passed_over (without_return line) ≡ over → AllBelong (questions n (line ∷ lines)) (lines_of (answer_text n answer ++ text))
+  belongs_next n line lines answer text small is hands others true e =
+      let here : answer ≡ passed_over = subst (λ (kind : LineKind). AnswersKind rules kind (without_return line) answer) (kind_over line e) is in
+      let no_report : asks line ≡ false = ap not e in
+      let same : lines_of (answer_text n answer ++ text) ≡ lines_of text = ap (λ (a : Answer). lines_of (answer_text n a ++ text)) here in
+      rw (no_report, same) others
+  belongs_next n line lines answer text small is hands others false e =
+      let asking : asks line ≡ true = ap not e in
+      rw asking (belongs_here n line (questions (n + 1) lines) answer (lines_of text) small is hands (kind_asks line e) others text refl)
+
+  all_belong : (n : ℕ) (lines : List (List ℕ)) (answers : List Answer) → n + length lines ≤ 2 ^ 64 → AnswersLines rules lines answers → HandsAllOver rules.grid handed lines answers → AllBelong (questions n lines) (lines_of (answers_text n answers))
+  all_belong n [] [] few are hands = λ k id line ending here reads. absurd (cc)
+  all_belong n [] (answer ∷ answers) few are hands = absurd are
+  all_belong n (line ∷ lines) [] few are hands = absurd are
+  all_belong n (line ∷ lines) (answer ∷ answers) few are hands =
+      belongs_next n line lines answer (answers_text (n + 1) answers) (omega arith) are.0 hands.0 (all_belong (n + 1) lines answers (omega arith) are.1 hands.1) (is_passed_over (without_return line)) refl
+
+  pub figures_belong : FiguresBelongToReports rules handed
+  figures_belong input sink empty figures =
+      let written = held sink.before.contents sink.after.contents figures.begun.sent empty figures.begun.put in
+      (figures.begun.sent, figures.begun.unsent, written, at)
+    where
+      at : (k : ℕ) (id : List ℕ) (ending : Ending) → IsReply (figures.begun.sent ++ figures.begun.unsent) k (outcome_data id ending) → Belong (questions 1 (lines_of input)) k id ending
+      at k id ending (line, here, reads) =
+          let whole = subst (λ (text : List ℕ). slice_get (lines_of text) k ≡ Some line) (sym figures.begun.parts) here in
+          let (n, asking, b, solved, question, entry, given, same) = all_belong 1 figures.lines figures.answers (omega (arith, figures.few)) figures.answered figures.figures k id line ending whole reads in
+          (n, asking, b, solved, subst (λ (lines : List (List ℕ)). slice_get (questions 1 lines) k ≡ Some (n, asking)) (sym figures.first.1) (questions_front 1 figures.lines figures.first.0 k (n, asking) question), entry, given, same)

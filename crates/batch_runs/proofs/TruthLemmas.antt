@@ -165,17 +165,17 @@ feed_ends [] rest none = refl
 feed_ends (b ∷ bs) rest none = rw (ne_eqb b 10 none.0) (ap (onto_first b) (feed_ends bs rest none.1))
 
 -- a report is one line
-report_first : (d : Data) (rest : List ℕ) → lines_of (report_text d ++ rest) ≡ compact_text d ∷ lines_of rest
+pub report_first : (d : Data) (rest : List ℕ) → lines_of (report_text d ++ rest) ≡ compact_text d ∷ lines_of rest
 report_first d rest = ap lines_of (append_assoc (compact_text d) (10 ∷ []) rest) ∙ feed_ends (compact_text d) rest (text_other d)
 
-kind_over : (line : List ℕ) → is_passed_over (without_return line) ≡ true → line_kind_of line ≡ PassedOver
+pub kind_over : (line : List ℕ) → is_passed_over (without_return line) ≡ true → line_kind_of line ≡ PassedOver
 kind_over line e = rw e refl
 
 either_kind : (b : Bool) → (cond b TooLong Within ≡ TooLong) ⊎ (cond b TooLong Within ≡ Within)
 either_kind true = inl refl
 either_kind false = inr refl
 
-kind_asks : (line : List ℕ) → is_passed_over (without_return line) ≡ false → (line_kind_of line ≡ TooLong) ⊎ (line_kind_of line ≡ Within)
+pub kind_asks : (line : List ℕ) → is_passed_over (without_return line) ≡ false → (line_kind_of line ≡ TooLong) ⊎ (line_kind_of line ≡ Within)
 kind_asks line e =
     let long = nat_lt LINE_LIMIT (length (without_return line)) in
     let is : line_kind_of line ≡ cond long TooLong Within = rw e refl in
@@ -283,7 +283,7 @@ module _ (rules : Rules) (S : Type 0) where
 
 -- ---- what is read is what was reported
 
-abbrev data_or : Option Data → Data
+abbrev pub data_or : Option Data → Data
 data_or None = null
 data_or (Some d) = d
 
@@ -331,7 +331,7 @@ outcome_true task id (Bounded bound best cause) answers = record {
 
 -- ---- what a true report says of plans
 
-abbrev letters_in : Option Data → List ℕ
+abbrev pub letters_in : Option Data → List ℕ
 letters_in o = text_in (data_or o)
 
 abbrev number_in : Option Data → ℕ
@@ -466,7 +466,7 @@ refused_line rules lines output k n m line code fault told asked faulty seen =
     (ap letters_in says.2.1 ∙ same_code rules.grid line says.0 fault says.1 faulty, ap number_in says.2.2)
 
 -- the report of an ending isn't the report of a refused line
-no_refusal : (name : List ℕ) (ending : Ending) → ¬ HasStatus (outcome_data name ending) (codes "refused")
+pub no_refusal : (name : List ℕ) (ending : Ending) → ¬ HasStatus (outcome_data name ending) (codes "refused")
 no_refusal name (Optimal cost plan) e = let z = ap first_letter e in absurd (omega arith)
 no_refusal name (Unsolvable why) e = let z = ap first_letter e in absurd (omega arith)
 no_refusal name (Bounded bound best cause) e = let z = ap first_letter e in absurd (omega arith)

@@ -1,5 +1,5 @@
 -- The laws of the definitions. Each is the contract of a function that does nothing.
-use Rattle.std.specs.Prelude.{ℕ, ◌≡◌, ◌≢◌, ◌≤◌, ◌<◌, true, false, List, [], ◌∷◌, ◌⊎◌, length, slice_get, Some, None, Result, Ok, Err, Option, Vec, codes}
+use Rattle.std.specs.Prelude.{ℕ, ◌≡◌, ◌≢◌, ◌≤◌, ◌<◌, true, false, List, [], ◌∷◌, ◌⊎◌, length, slice_get, ◌++◌, Some, None, Result, Ok, Err, Option, Vec, codes}
 use Rattle.std.specs.declared.alloc.Global.{Global}
 use Rattle.board.specs.declared.moves.Move.{Move}
 use Rattle.board.specs.Plans.{Leads, NothingBelow, IsLeast}
@@ -13,13 +13,16 @@ use Rattle.reports.specs.Readings.{Reads}
 use Rattle.serde_json.specs.Data.{Data}
 use Rattle.board.specs.Boards.{BoardModel}
 use Rattle.byte_streams.specs.Streams.{SourceState, SinkState, Change}
-use Rattle.batch_lines.specs.Lines.{lines_of}
+use Rattle.batch_lines.specs.Lines.{lines_of, without_return}
+use Rattle.batch_lines.specs.Words.{IsEntry}
 use Rattle.batch_lines.specs.declared.lines.TheConstants.{INPUT_LIMIT}
 use Rattle.batch_runs.specs.declared.batch.Summary.{Summary}
 use Rattle.batch_runs.specs.declared.faults.LinesFault.{LinesFault}
 use Rattle.batch_runs.specs.declared.faults.LinesFault.TheVariants.{Read, Write}
 use Rattle.batch_runs.specs.Batches.{Rules, Answer, AnswersLines, LosesLine, ReportsLines, answers_text}
 use Rattle.batch_runs.specs.Headline.{IsTrueOfBoard, TellsTheTruth}
+use Rattle.batch_runs.specs.Stats.{HandsFigures}
+use Rattle.batch_runs.specs.declared.stats.Solved.{Solved}
 use Rattle.batch_runs.specs.Meanings.{asks, IsQuestion, Names, HasFault, IsReply, SaysLeast, SaysNone, SaysBound, AreAllDecided}
 
 -- a line of an input within the limit is lost only where the source has failed
@@ -160,3 +163,20 @@ DecidedLinesAreAccepted = (output : List ℕ) (k m : ℕ) (code : List ℕ) → 
 abbrev pub DecidedLinesAreSettled : Type 0
 DecidedLinesAreSettled =
     (output : List ℕ) (k bound : ℕ) (id : List ℕ) (best : Option (ℕ × Vec Move Global)) (cause : Cause) → AreAllDecided output → ¬ IsReply output k (outcome_data id (Bounded bound best cause))
+
+-- ---- figures
+
+-- Where figures were handed over and the output was empty, each report of an ending has figures. Its place in the output, the k-th, is that of
+-- a line of the input among those that ask for an answer. This line names a board by the id of the report. The figures of that board were
+-- handed over with this id, beside an ending that has this report.
+abbrev pub FiguresBelongToReports : Rules → (List ℕ → BoardModel → Solved → Type 0) → Type 0
+FiguresBelongToReports rules handed =
+    (input : List ℕ) (sink : Change SinkState)
+    → sink.before.contents ≡ Some []
+    → HandsFigures rules handed (Some input) sink
+    → (written unwritten : List ℕ) × (sink.after.contents ≡ Some written)
+    × ((k : ℕ) (id : List ℕ) (ending : Ending)
+    → IsReply (written ++ unwritten) k (outcome_data id ending)
+    → (n : ℕ) × (line : List ℕ) × (b : BoardModel) × (solved : Solved)
+    × IsQuestion (lines_of input) k n line × IsEntry rules.grid (without_return line) id b
+    × handed id b solved × (outcome_data id solved.ending ≡ outcome_data id ending))

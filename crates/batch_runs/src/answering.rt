@@ -1,13 +1,14 @@
 //! Solvers of boards, and what is answered of each line.
 
 ghost use Rattle.std.specs.Prelude.{ℕ, ◌≡◌, ◌≢◌, List, All, IfOk, IfSome, OnErr, Some, None};
-ghost use Rattle.std.specs.Prelude.{string_bytes};
+ghost use Rattle.std.specs.Prelude.{string_bytes, ⊤};
 ghost use Rattle.board.specs.Boards.{BoardModel};
 ghost use Rattle.batch_lines.specs.Words.{IsEntry};
 ghost use Rattle.batch_lines.specs.declared.lines.LineKind.TheVariants.{PassedOver};
 ghost use Rattle.batch_runs.specs.Batches.{Rules, Answer, AnswersKind, AnswersEntry};
 ghost use Rattle.batch_runs.specs.Batches.{CanCountMore, MayGive, AreAllowed};
 ghost use Rattle.batch_runs.specs.Batches.{answer_text, with_answer};
+ghost use Rattle.batch_runs.specs.Stats.{HandsOver};
 
 use crate::batch::Summary;
 use crate::stats::Solved;
@@ -35,6 +36,9 @@ pub trait Solver: Ruled {
     // Whether a board's stats are those of the search that gave its ending.
     ghost has_stats: { Self → BoardModel → Solved → Type 0 };
 
+    // Figures were handed over with this id: for any solver this follows from `observe` alone.
+    ghost has_observed: { Self → List ℕ → Solved → Type 0 } = { λ _ _ _. ⊤ };
+
     /// The shape of the boards.
     fn shape(&self) -> Shape
         ensures { result ≡ (Self.rules self.now).grid };
@@ -58,7 +62,8 @@ pub trait Solver: Ruled {
     /// says what becomes of them.
     fn observe(&self, id: &str, solved: &Solved)
         requires { (line : List ℕ) × (b : BoardModel) × IsEntry (Self.rules self.now).grid line id.now b
-            × has_stats self.now b solved.now };
+            × has_stats self.now b solved.now }
+        ensures { has_observed self.now id.now solved.now };
 }
 
 /// A solver, and the endings that are ready: of boards whose lines are not taken yet, the first one
@@ -109,7 +114,9 @@ impl<'a, A: Solver> Answerer<'a, A> {
         ensures report { IfOk result (λ report. (answer : Answer)
             × AnswersKind (A.rules self.old) line.kind bytes.now answer
             × (string_bytes report.0 ≡ answer_text line.number answer)
-            × (report.1 ≡ with_answer summary answer)) }
+            × (report.1 ≡ with_answer summary answer)
+            × HandsOver (A.rules self.old).grid (λ id b solved. A.has_stats self.old b solved
+            × A.has_observed self.old id solved) bytes.now answer) }
     {
         let LineKind::Within = line.kind else {
             let text = refused_report(self.alloc, EntryFault::NoText.code(), line.number)?;
@@ -131,7 +138,9 @@ impl<'a, A: Solver> Answerer<'a, A> {
         ensures report { IfOk result (λ report. (answer : Answer)
             × AnswersEntry (A.rules self.old) bytes.now answer
             × (string_bytes report.0 ≡ answer_text number answer)
-            × (report.1 ≡ with_answer summary answer)) }
+            × (report.1 ≡ with_answer summary answer)
+            × HandsOver (A.rules self.old).grid (λ id b solved. A.has_stats self.old b solved
+            × A.has_observed self.old id solved) bytes.now answer) }
     {
         let entry = match read_entry(self.solver.shape(), bytes) {
             Ok(entry) => entry,

@@ -6,6 +6,7 @@ ghost use Rattle.byte_streams.specs.Sink.{Writes};
 ghost use Rattle.batch_runs.specs.Batches.{ReportsLines, IsTruthful, CanCountMore, HasFailed};
 ghost use Rattle.batch_runs.specs.Batches.{with_outcome, with_refused};
 ghost use Rattle.batch_runs.specs.Headline.{IsTrueRun};
+ghost use Rattle.batch_runs.specs.Stats.{HandsFigures};
 
 use crate::answering::{Answerer, Solver};
 use crate::faults::LinesFault;
@@ -53,6 +54,8 @@ impl Summary {
 /// sink after each. The solver answers a board as its rules allow. Where they are truthful, so is
 /// what is written.
 ///
+/// Before a report of an ending is written, the solver is handed the ending and its figures.
+///
 /// Boards may be solved ahead, from bytes that the source already holds. So nothing is read for
 /// boards that are not answered yet.
 pub fn run_lines<S: Source, K: Sink, A: Solver>(
@@ -68,6 +71,9 @@ pub fn run_lines<S: Source, K: Sink, A: Solver>(
         (change S.state source.old source.new) (change K.state sink.old sink.new) result }
     ensures flushed { K.is_flushed sink.new ⊎ (sink.new ≡ sink.old)
         ⊎ HasFailed (K.state sink.new) }
+    ensures figures { HandsFigures (A.rules solver.now) (λ id b solved. A.has_stats solver.now b solved
+        × A.has_observed solver.now id solved) (S.state source.old).left
+        (change K.state sink.old sink.new) }
 {
     report_all(alloc, source, sink, solver)
 }
@@ -84,6 +90,9 @@ fn report_all<S: Source, K: Sink, A: Solver>(
         (change K.state sink.old sink.new) result }
     ensures flushed { K.is_flushed sink.new ⊎ (sink.new ≡ sink.old)
         ⊎ HasFailed (K.state sink.new) }
+    ensures figures { HandsFigures (A.rules solver.now) (λ id b solved. A.has_stats solver.now b solved
+        × A.has_observed solver.now id solved) (S.state source.old).left
+        (change K.state sink.old sink.new) }
 {
     let mut reader = LineReader::new();
     let mut answerer = Answerer::new(alloc, solver);

@@ -12,13 +12,13 @@ ghost use Rattle.batch_runs.specs.Laws.{DecidedLinesAreAccepted, DecidedLinesAre
 ghost use Rattle.batch_runs.specs.Laws.{AnsweredBoardsAreTold, FaultyLinesHaveNoEnding};
 ghost use Rattle.batch_runs.specs.Laws.{LinesPassedOverAreCounted};
 ghost use Rattle.batch_runs.specs.Laws.{OptimalReportsAreLeast, UnsolvableReportsHaveNoPlan};
-ghost use Rattle.batch_runs.specs.Laws.{BoundedReportsAreBelow};
+ghost use Rattle.batch_runs.specs.Laws.{BoundedReportsAreBelow, FiguresBelongToReports};
 ghost use Rattle.batch_runs.specs.Setups.{owner_by};
 ghost use Rattle.batch_runs.specs.declared.setup.SpreadKind.TheVariants.{Zobrist, Blank, Abstract};
 ghost use Rattle.owners.specs.Owners.{owner_by_hash, owner_by_blank, owner_by_abstract_hash};
 ghost use Rattle.std.specs.Prelude.{◌≡◌};
 
-use crate::answering::Ruled;
+use crate::answering::{Ruled, Solver};
 
 /// What is written of the answers of a truthful solver tells the truth of each line.
 #[tactic(auto, using(crate::proofs::TruthLemmas::truth))]
@@ -86,6 +86,16 @@ pub fn runs_are_told<A: Ruled>(asked: &A)
     ensures failures { FailedWritesAreTold (A.rules asked.now) }
     ensures write_faults { WriteFaultsAreFailures (A.rules asked.now) }
     ensures read_faults { ReadFaultsAreFailures (A.rules asked.now) }
+{
+    let _ = asked;
+}
+
+/// Where a run over a known input hands over figures and the output was empty, each report of an
+/// ending belongs to figures: those of the board of its line, handed over with the id of the line.
+#[tactic(auto, using(crate::proofs::BatchLemmas::figures_belong))]
+pub fn figures_belong_to_reports<A: Solver>(asked: &A)
+    ensures { FiguresBelongToReports (A.rules asked.now)
+        (λ id b solved. A.has_stats asked.now b solved × A.has_observed asked.now id solved) }
 {
     let _ = asked;
 }

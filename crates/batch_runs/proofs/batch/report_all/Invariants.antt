@@ -7,7 +7,7 @@ use Rattle.batch_runs.proofs.batch.report_all.Given as goal
 
 abbrev pub invariant-lines : goal.invariant-lines
 invariant-lines g l = record {
-  running : IsRunning (g.A.Ruled.rules l.fn.solver) (change g.S.Source.state l.fn.source l.source) (change g.K.Sink.state l.fn.sink l.sink) l.reader.lines l.summary;
+  running : IsRunning (g.A.Ruled.rules l.fn.solver) (λ id b solved. g.A.Solver.has_stats l.fn.solver b solved × g.A.Solver.has_observed l.fn.solver id solved) (change g.S.Source.state l.fn.source l.source) (change g.K.Sink.state l.fn.sink l.sink) l.reader.lines l.summary;
   taken : CountsKnown (g.S.Source.state l.fn.source).left (g.S.Source.state l.source).left 0 l.reader.taken;
   unfailed : (g.K.Sink.state l.sink).has_failed ≡ (g.K.Sink.state l.fn.sink).has_failed;
   flushed : g.K.Sink.is_flushed l.sink ⊎ (l.sink ≡ l.fn.sink);

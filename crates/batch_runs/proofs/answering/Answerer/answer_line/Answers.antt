@@ -9,20 +9,22 @@ pub returns-in-Err-clause-report : goal.returns-in-Err-clause-report
 returns-in-Err-clause-report g c =
     let fault = c.in-Err.fault in
     let first = rw (c.shape.ensures, c.self.view_is) at (c.in-Err.ensures.fault fault).0 refl in
-    (refused (entry_code fault), by_fault fault first, rw c.code.ensures at c.in_ok-text-in-Err.ensures, c.with_refused.ensures)
+    (refused (entry_code fault), by_fault fault first, rw c.code.ensures at c.in_ok-text-in-Err.ensures, c.with_refused.ensures, tt)
 
 pub returns-in-Err-end_board-clause-report : goal.returns-in-Err-end_board-clause-report
 returns-in-Err-end_board-clause-report g c =
     let entry = c.in-Ok.entry in
     let named = rw (c.shape.ensures, c.self.view_is) at c.in-Ok.ensures.entry in
-    (refused (codes "V3"), by_want entry.id.now entry.board named c.in-Err-end_board.ensures.lacking, rw c.code-code.ensures at c.in_ok-text-in-Err-end_board.ensures, c.with_refused-in-Err-end_board.ensures)
+    (refused (codes "V3"), by_want entry.id.now entry.board named c.in-Err-end_board.ensures.lacking, rw c.code-code.ensures at c.in_ok-text-in-Err-end_board.ensures, c.with_refused-in-Err-end_board.ensures, tt)
 
 pub returns-clause-report : goal.returns-clause-report
 returns-clause-report g c =
     let entry = c.in-Ok.entry in
     let named = rw (c.shape.ensures, c.self.view_is) at c.in-Ok.ensures.entry in
     let ending = c.in-Ok-end_board.solved.ending in
-    (answered entry.id.now ending, by_outcome entry.id.now entry.board ending named c.in-Ok-end_board.ensures.answered c.in_ok-text.ensures.small, c.in_ok-text.ensures.text, c.with_outcome.ensures)
+    let same : c.self-2.inside.solver.now ≡ c.args.self.now = c.self-2.view_is ∙ c.in-Ok-end_board.ensures.same in
+    let handed = subst (λ (s : g.row.A.Denot). g.A.Solver.has_observed s entry.id.now c.in-Ok-end_board.solved) same c.observe.ensures in
+    (answered entry.id.now ending, by_outcome entry.id.now entry.board ending named c.in-Ok-end_board.ensures.answered c.in_ok-text.ensures.small, c.in_ok-text.ensures.text, c.with_outcome.ensures, (entry.board, c.in-Ok-end_board.solved, named, (c.in-Ok-end_board.ensures.stats, handed), refl))
 
 pub observe-requires : goal.observe-requires
 observe-requires g c =
