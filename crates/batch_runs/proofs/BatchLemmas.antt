@@ -22,9 +22,16 @@ use Rattle.board.specs.Boards.{BoardModel}
 use Rattle.batch_runs.specs.Headline.{IsTrueRun, TellsTheTruth, BatchOutputsTellTheTruth, BeginningsTellTheTruth}
 use Rattle.batch_runs.specs.declared.faults.LinesFault.{LinesFault}
 use Rattle.batch_runs.specs.declared.faults.LinesFault.TheVariants.{Read, Write, Memory}
-use Rattle.batch_runs.specs.Laws.{BatchLinesAreLostToFailures, OutputsAreAnswers, FailedWritesAreTold, WriteFaultsAreFailures, ReadFaultsAreFailures, FiguresBelongToReports}
+use Rattle.batch_runs.specs.Laws.{BatchLinesAreLostToFailures, OutputsAreAnswers, FailedWritesAreTold, WriteFaultsAreFailures, ReadFaultsAreFailures, FiguresBelongToReports, CountsAreOfReports, status_in, FoldedSetupsAskAlike}
 use Rattle.batch_runs.proofs.TruthLemmas.{truth, settled, report_first, kind_over, kind_asks, no_refusal, data_or, letters_in}
-use Rattle.std.specs.Prelude.{not}
+use Rattle.std.specs.Prelude.{not, count_by, unwrap_or, option_and_then}
+use Rattle.std.specs.Str.{bytes_eq}
+use Rattle.std.proofs.lemmas.List.Sums.{sum_by-cons}
+use Rattle.lower_bound.specs.Bounds.{sum_of}
+use Rattle.lower_bound.specs.Tables.{BoundModel, parts_of}
+use Rattle.lower_bound.proofs.PartLemmas.{folded_no_more}
+use Rattle.batch_runs.specs.Setups.{SetupModel}
+use Rattle.serde_json.specs.Find.{as_str}
 use Rattle.serde_json.specs.Data.{Data}
 use Rattle.serde_json.specs.Read.{read}
 use Rattle.serde_json.specs.Written.{compact_text}
@@ -488,3 +495,90 @@ module _ (rules : Rules) (handed : List ℕ → BoardModel → Solved → Type 0
           let whole = subst (λ (text : List ℕ). slice_get (lines_of text) k ≡ Some line) (sym figures.begun.parts) here in
           let (n, asking, b, solved, question, entry, given, same) = all_belong 1 figures.lines figures.answers (omega (arith, figures.few)) figures.answered figures.figures k id line ending whole reads in
           (n, asking, b, solved, subst (λ (lines : List (List ℕ)). slice_get (questions 1 lines) k ≡ Some (n, asking)) (sym figures.first.1) (questions_front 1 figures.lines figures.first.0 k (n, asking) question), entry, given, same)
+
+-- ---- counts are those of reports
+
+abbrev has_status : List ℕ → List ℕ → Bool
+has_status word line = bytes_eq (status_in line) word
+
+-- a line more with this status
+count_more : (word status line : List ℕ) (lines : List (List ℕ)) → status_in line ≡ status → count_by (has_status word) (line ∷ lines) ≡ cond {A = ℕ} (bytes_eq status word) 1 0 + count_by (has_status word) lines
+count_more word status line lines e =
+    sum_by-cons (λ (l : List ℕ). cond {A = ℕ} (has_status word l) 1 0) line lines ∙ ap (λ (s : List ℕ). cond {A = ℕ} (bytes_eq s word) 1 0 + count_by (has_status word) lines) e
+
+-- the status that a report names
+report_status : (d : Data) → IsReport d → status_in (compact_text d) ≡ unwrap_or (option_and_then as_str (get (codes "status") d)) []
+report_status d is = ap (λ (o : Option Data). unwrap_or (option_and_then as_str (option_and_then (get (codes "status")) o)) []) (report_read d is)
+
+-- the counts after are those before and of these lines
+record AreCounted (before after : Summary) (lines : List (List ℕ)) : Type 0 where
+  optimal : after.optimal ≡ before.optimal + count_by (has_status (codes "optimal")) lines
+  unsolvable : after.unsolvable ≡ before.unsolvable + count_by (has_status (codes "unsolvable")) lines
+  bounded : after.bounded ≡ before.bounded + count_by (has_status (codes "bounded")) lines
+  refused : after.refused ≡ before.refused + count_by (has_status (codes "refused")) lines
+
+-- one line more, with this status
+counted_more : (status : List ℕ) (before between after : Summary) (line : List ℕ) (lines : List (List ℕ)) → status_in line ≡ status
+    → between.optimal ≡ before.optimal + cond {A = ℕ} (bytes_eq status (codes "optimal")) 1 0
+    → between.unsolvable ≡ before.unsolvable + cond {A = ℕ} (bytes_eq status (codes "unsolvable")) 1 0
+    → between.bounded ≡ before.bounded + cond {A = ℕ} (bytes_eq status (codes "bounded")) 1 0
+    → between.refused ≡ before.refused + cond {A = ℕ} (bytes_eq status (codes "refused")) 1 0
+    → AreCounted between after lines → AreCounted before after (line ∷ lines)
+counted_more status before between after line lines e o u b r rest =
+    let optimal = count_more (codes "optimal") status line lines e in
+    let unsolvable = count_more (codes "unsolvable") status line lines e in
+    let bounded = count_more (codes "bounded") status line lines e in
+    let refused = count_more (codes "refused") status line lines e in
+    record {
+      optimal = omega (arith, rest.optimal, o, optimal);
+      unsolvable = omega (arith, rest.unsolvable, u, unsolvable);
+      bounded = omega (arith, rest.bounded, b, bounded);
+      refused = omega (arith, rest.refused, r, refused);
+    }
+
+-- the report of an ending counts as its kind
+counted_ending : (id : List ℕ) (ending : Ending) (before after : Summary) (lines : List (List ℕ)) → HasSmallNumbers ending → AreCounted (with_answer before (answered id ending)) after lines → AreCounted before after (compact_text (outcome_data id ending) ∷ lines)
+counted_ending id (Optimal cost plan) before after lines small rest =
+    counted_more (codes "optimal") before (with_answer before (answered id (Optimal cost plan))) after _ lines (report_status _ (of_outcome id (Optimal cost plan) small)) refl (omega arith) (omega arith) (omega arith) rest
+counted_ending id (Unsolvable why) before after lines small rest =
+    counted_more (codes "unsolvable") before (with_answer before (answered id (Unsolvable why))) after _ lines (report_status _ (of_outcome id (Unsolvable why) small)) (omega arith) refl (omega arith) (omega arith) rest
+counted_ending id (Bounded bound best cause) before after lines small rest =
+    counted_more (codes "bounded") before (with_answer before (answered id (Bounded bound best cause))) after _ lines (report_status _ (of_outcome id (Bounded bound best cause) small)) (omega arith) (omega arith) refl (omega arith) rest
+
+-- counts that begin at 0
+from_none : (count n : ℕ) → count ≡ 0 + n → count ≡ n
+from_none count n e = omega (arith, e)
+
+module _ (rules : Rules) where
+  counted_lines : (n : ℕ) (lines : List (List ℕ)) (answers : List Answer) → n + length lines ≤ 2 ^ 64 → AnswersLines rules lines answers → (before : Summary) → AreCounted before (with_answers before answers) (lines_of (answers_text n answers))
+  counted_lines n [] [] few are before = record { optimal = omega arith; unsolvable = omega arith; bounded = omega arith; refused = omega arith }
+  counted_lines n [] (answer ∷ answers) few are before = absurd are
+  counted_lines n (line ∷ lines) [] few are before = absurd are
+  counted_lines n (line ∷ lines) (passed_over ∷ answers) few are before = counted_lines (n + 1) lines answers (omega arith) are.1 before
+  counted_lines n (line ∷ lines) (refused code ∷ answers) few are before =
+      let rest = counted_lines (n + 1) lines answers (omega arith) are.1 (with_answer before (refused code)) in
+      subst (AreCounted before (with_answers (with_answer before (refused code)) answers)) (sym (report_first (refused_data code n) (answers_text (n + 1) answers)))
+      (counted_more (codes "refused") before (with_answer before (refused code)) (with_answers (with_answer before (refused code)) answers) _ (lines_of (answers_text (n + 1) answers)) (report_status _ (of_line code n (omega arith))) (omega arith) (omega arith) (omega arith) refl rest)
+  counted_lines n (line ∷ lines) (answered id ending ∷ answers) few are before =
+      let rest = counted_lines (n + 1) lines answers (omega arith) are.1 (with_answer before (answered id ending)) in
+      let small = small_answer rules (line_kind_of line) (without_return line) id ending are.0 in
+      subst (AreCounted before (with_answers (with_answer before (answered id ending)) answers)) (sym (report_first (outcome_data id ending) (answers_text (n + 1) answers)))
+      (counted_ending id ending before (with_answers (with_answer before (answered id ending)) answers) (lines_of (answers_text (n + 1) answers)) small rest)
+
+  pub counts_of_reports : CountsAreOfReports rules
+  counts_of_reports source sink counts empty reports =
+      let all = reports.0 in
+      let counted = subst (λ (c : Summary). AreCounted no_lines c (lines_of (answers_text 1 all.answers))) (sym all.counted) (counted_lines 1 all.lines all.answers (omega (arith, all.few)) all.answered no_lines) in
+      (answers_text 1 all.answers, held sink.before.contents sink.after.contents (answers_text 1 all.answers) empty all.written, from_none _ _ counted.optimal, from_none _ _ counted.unsolvable, from_none _ _ counted.bounded, from_none _ _ counted.refused)
+
+-- ---- a folded setup
+
+pub folded_alike : FoldedSetupsAskAlike
+folded_alike setup folded (tables, made, is) = record {
+  goal = ap (λ (s : SetupModel). s.goal) is;
+  rule = ap (λ (s : SetupModel). s.rule) is;
+  limit = ap (λ (s : SetupModel). s.limit) is;
+  workers = ap (λ (s : SetupModel). s.workers) is;
+  spread = ap (λ (s : SetupModel). s.spread) is;
+  sums = λ tabled start board sides. subst (λ (t : BoundModel). sum_of (parts_of t) start ≤ sum_of (parts_of setup.tables) start) (sym (ap (λ (s : SetupModel). s.tables) is)) (folded_no_more setup.tables tables tabled made start board sides);
+}

@@ -1,5 +1,5 @@
 -- The laws of the definitions. Each is the contract of a function that does nothing.
-use Rattle.std.specs.Prelude.{ℕ, ◌≡◌, ◌≢◌, ◌≤◌, ◌<◌, true, false, List, [], ◌∷◌, ◌⊎◌, length, slice_get, ◌++◌, Some, None, Result, Ok, Err, Option, Vec, codes}
+use Rattle.std.specs.Prelude.{ℕ, ◌≡◌, ◌≢◌, ◌≤◌, ◌<◌, true, false, List, [], ◌∷◌, ◌⊎◌, length, slice_get, ◌++◌, Some, None, Result, Ok, Err, Option, Vec, codes, unwrap_or, option_and_then, count_by}
 use Rattle.std.specs.declared.alloc.Global.{Global}
 use Rattle.board.specs.declared.moves.Move.{Move}
 use Rattle.board.specs.Plans.{Leads, NothingBelow, IsLeast}
@@ -10,8 +10,13 @@ use Rattle.outcomes.specs.declared.outcome.Ending.{Ending}
 use Rattle.outcomes.specs.declared.outcome.Ending.TheVariants.{Optimal, Unsolvable, Bounded}
 use Rattle.reports.specs.Reports.{outcome_data, refused_data}
 use Rattle.reports.specs.Readings.{Reads}
+use Rattle.std.specs.Str.{bytes_eq}
 use Rattle.serde_json.specs.Data.{Data}
-use Rattle.board.specs.Boards.{BoardModel}
+use Rattle.serde_json.specs.Find.{get, as_str}
+use Rattle.serde_json.specs.Read.{read}
+use Rattle.board.specs.Boards.{BoardModel, IsBoard}
+use Rattle.board.specs.Weights.{WeightsModel}
+use Rattle.lower_bound.specs.Tables.{IsTables}
 use Rattle.byte_streams.specs.Streams.{SourceState, SinkState, Change}
 use Rattle.batch_lines.specs.Lines.{lines_of, without_return}
 use Rattle.batch_lines.specs.Words.{IsEntry}
@@ -21,6 +26,7 @@ use Rattle.batch_runs.specs.declared.faults.LinesFault.{LinesFault}
 use Rattle.batch_runs.specs.declared.faults.LinesFault.TheVariants.{Read, Write}
 use Rattle.batch_runs.specs.Batches.{Rules, Answer, AnswersLines, LosesLine, ReportsLines, answers_text}
 use Rattle.batch_runs.specs.Headline.{IsTrueOfBoard, TellsTheTruth}
+use Rattle.batch_runs.specs.Setups.{SetupModel, IsFoldedSetup, plain_setup, task_of_setup}
 use Rattle.batch_runs.specs.Stats.{HandsFigures}
 use Rattle.batch_runs.specs.declared.stats.Solved.{Solved}
 use Rattle.batch_runs.specs.Meanings.{asks, IsQuestion, Names, HasFault, IsReply, SaysLeast, SaysNone, SaysBound, AreAllDecided}
@@ -180,3 +186,42 @@ FiguresBelongToReports rules handed =
     → (n : ℕ) × (line : List ℕ) × (b : BoardModel) × (solved : Solved)
     × IsQuestion (lines_of input) k n line × IsEntry rules.grid (without_return line) id b
     × handed id b solved × (outcome_data id solved.ending ≡ outcome_data id ending))
+
+-- ---- counts
+
+-- the status that a line of an output names; none where it isn't read as JSON, or names none
+abbrev pub status_in : List ℕ → List ℕ
+status_in line = unwrap_or (option_and_then as_str (option_and_then (get (codes "status")) (read line))) []
+
+-- how many lines of an output have this status
+abbrev pub count_status : List ℕ → List ℕ → ℕ
+count_status word output = count_by (λ line. bytes_eq (status_in line) word) (lines_of output)
+
+-- each count of a run is that of the lines of its output with the status of this name, where the output was empty
+abbrev pub CountsAreOfReports : Rules → Type 0
+CountsAreOfReports rules =
+    (source : Change SourceState) (sink : Change SinkState) (counts : Summary)
+    → sink.before.contents ≡ Some []
+    → ReportsLines rules source sink (Ok counts)
+    → (output : List ℕ) × (sink.after.contents ≡ Some output)
+    × (counts.optimal ≡ count_status (codes "optimal") output) × (counts.unsolvable ≡ count_status (codes "unsolvable") output)
+    × (counts.bounded ≡ count_status (codes "bounded") output) × (counts.refused ≡ count_status (codes "refused") output)
+
+-- ---- setups
+
+-- what is asked of a board by the second is the same, within the same limit and by the same workers; and no sum of its tables is higher
+pub record AsksAlike (setup folded : SetupModel) : Type 0 where
+  pub goal : folded.goal ≡ setup.goal
+  pub rule : folded.rule ≡ setup.rule
+  pub limit : folded.limit ≡ setup.limit
+  pub workers : folded.workers ≡ setup.workers
+  pub spread : folded.spread ≡ setup.spread
+  pub sums : IsTables setup.tables → (start : BoardModel) → IsBoard start → start.grid ≡ setup.tables.split.grid → (task_of_setup folded start).sum start ≤ (task_of_setup setup start).sum start
+
+-- so asks a folded setup
+abbrev pub FoldedSetupsAskAlike : Type 0
+FoldedSetupsAskAlike = (setup folded : SetupModel) → IsFoldedSetup setup folded → AsksAlike setup folded
+
+-- without tables each sum is 0
+abbrev pub NewSetupsHaveNoSums : Type 0
+NewSetupsHaveNoSums = (goal start b : BoardModel) (rule : WeightsModel) → (task_of_setup (plain_setup goal rule) start).sum b ≡ 0

@@ -1,4 +1,4 @@
-use Rattle.batch_runs.proofs.TruthLemmas.{refused_board, refused_line, board_told, no_ending, passed_counted}
+use Rattle.batch_runs.proofs.TruthLemmas.{refused_board, refused_line, board_told, no_ending, passed_counted, reported_name}
 use Rattle.batch_runs.proofs.laws.reports_fit_their_lines.Goals as goal
 
 pub returns-clause-boards : goal.returns-clause-boards
@@ -15,3 +15,6 @@ returns-clause-no_ending g c = no_ending (g.A.Ruled.rules c.args.asked.now)
 
 pub returns-clause-numbers : goal.returns-clause-numbers
 returns-clause-numbers g c = passed_counted
+
+pub returns-clause-named : goal.returns-clause-named
+returns-clause-named g c = reported_name

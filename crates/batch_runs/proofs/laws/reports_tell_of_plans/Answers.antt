@@ -1,4 +1,4 @@
-use Rattle.batch_runs.proofs.TruthLemmas.{reported_least, reported_none, reported_why, reported_bound, reported_cause, reported_name}
+use Rattle.batch_runs.proofs.TruthLemmas.{reported_least, reported_none, reported_why, reported_bound, reported_cause, reported_best}
 use Rattle.batch_runs.proofs.laws.reports_tell_of_plans.Goals as goal
 
 pub returns-clause-optimal : goal.returns-clause-optimal
@@ -16,5 +16,5 @@ returns-clause-bounded c = reported_bound
 pub returns-clause-causes : goal.returns-clause-causes
 returns-clause-causes c = reported_cause
 
-pub returns-clause-named : goal.returns-clause-named
-returns-clause-named c = reported_name
+pub returns-clause-best : goal.returns-clause-best
+returns-clause-best c = reported_best
