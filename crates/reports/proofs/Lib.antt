@@ -1,3 +1,2 @@
 pub mod TextLemmas
 pub mod ReadLemmas
-pub mod ToldLemmas

@@ -30,13 +30,13 @@ pub fn outcomes_are_told()
 {}
 
 /// A refused line's report is that of no other code and number.
-#[tactic(auto, using(crate::proofs::ToldLemmas::refusal_told))]
+#[tactic(auto, using(crate::proofs::ReadLemmas::refusal_told))]
 pub fn refusals_are_told()
     ensures { RefusalsAreTold }
 {}
 
 /// A certificate's report is that of no other cost, bound, or code.
-#[tactic(auto, using(crate::proofs::ToldLemmas::cost_told, crate::proofs::ToldLemmas::bound_told, crate::proofs::ToldLemmas::code_told))]
+#[tactic(auto, using(crate::proofs::ReadLemmas::cost_told, crate::proofs::ReadLemmas::bound_told, crate::proofs::ReadLemmas::code_told))]
 pub fn certificates_are_told()
     ensures costs { CostsAreTold }
     ensures bounds { BoundsAreTold }

@@ -1,4 +1,4 @@
-use Rattle.reports.proofs.ToldLemmas.{outcome_told, told_alike}
+use Rattle.reports.proofs.ReadLemmas.{outcome_told, told_alike}
 use Rattle.reports.proofs.laws.outcomes_are_told.Goals as goal
 
 pub returns-clause-told : goal.returns-clause-told
