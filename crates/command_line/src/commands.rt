@@ -44,6 +44,7 @@ fn top<'a>(alloc: Global) -> Result<Command<'a>, Error>
     let command = Command::new(alloc, "tilesolve")
         .bin_name("tilesolve")?
         .version(help::VERSION)
+        .override_usage(help::USAGE)
         .no_binary_name(true)
         .subcommand_required(true)
         .disable_help_subcommand(true);

@@ -3,6 +3,9 @@
 /// The program's version.
 pub(crate) const VERSION: &str = "1.0.0";
 
+/// The usage of the program, which needs no subcommand: without arguments it solves 3 by 3 boards.
+pub(crate) const USAGE: &str = "tilesolve [COMMAND]";
+
 /// What the program does.
 pub(crate) const PROGRAM: &str =
     "Solve sliding-tile puzzles optimally, and check certificates of the answers";
