@@ -54,7 +54,7 @@ use Rattle.command_line.specs.declared.requests.Request.{Request}
 use Rattle.command_line.specs.declared.requests.Request.TheVariants.{Solve, Certify, Check, Draw, Upgrade, Replay, Boards, Help, Version}
 use Rattle.command_line.specs.Requests.{AreCostsSaid, AreGroupsSaid, AreOptions, AsksRun, AsksText, AreDefaults, WordsAsk, WordsFail}
 use Rattle.command_line.specs.declared.faults.NoRequest.{NoRequest}
-use Rattle.command_line.specs.declared.faults.NoRequest.TheVariants.{Usage, Goal, Costs, Groups, NoListing, Memory}
+use Rattle.command_line.specs.declared.faults.NoRequest.TheVariants.{Usage, Goal, Costs, Groups, NoListing, Memory, NoMatch}
 use Rattle.batch_cli.specs.Setups.{AreOptionsFit, IsRequestFit, AreTablesFor, IsSetupOf, IsDefaultSetup}
 use Rattle.batch_cli.specs.declared.faults.BatchFault.{BatchFault}
 use Rattle.batch_cli.specs.declared.endings.Ending.{Ending}
@@ -578,7 +578,8 @@ module _ (source : Change SourceState) (sink : Change SinkState) (ending : Endin
   default_refused (Groups (groups.NoPartition fault)) never is = absurd never
   default_refused (Groups (groups.Memory lacking)) refused is = inr (subst HasNotBegun (sym is) tt, lacking, told ∙ ap status_of is)
   default_refused (NoListing fault) never is = absurd never
-  default_refused Memory never is = absurd never
+  default_refused (Memory error) never is = absurd never
+  default_refused NoMatch never is = absurd never
 
   none_true : EndsBy [] source sink ending → BatchOrNone
   none_true (inl (request, asks, ends)) = default_true request asks ends

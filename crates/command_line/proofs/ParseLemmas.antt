@@ -1,12 +1,13 @@
 -- What a parse of arguments says of a command, its matches, and what they ask for.
 use Rattle.std.proofs.Common.{◌≡◌, ℕ, List, Option, None, Some, sym, ap, subst, ◌∙◌, codes, true, refl, Bool, false, ap₂, [], Result, Ok, Err, IfOk, IfErr, inl, option_map, ◌≢◌, ◌==◌, ◌⊎◌, ◌∷◌, inr, map, length, get_or, arith, slice_get, option_and_then}
-use Rattle.std.specs.Prelude.{◌||◌, IfSome, IsTrue, ◌↔◌, is_some, not, unwrap_or, Box, find}
+use Rattle.std.specs.Prelude.{◌<◌, ◌≤◌, ◌^◌, ◌||◌, IfSome, IfNone, IsTrue, ◌↔◌, is_some, not, unwrap_or, Box, find}
 use Rattle.std.specs.Result.{IsErrAnd}
 use Rattle.std.proofs.lemmas.Bool.{true≢false}
 use Rattle.std.specs.Str.{bytes_eq}
 use Rattle.std.proofs.lemmas.Slice.Eq.{bytes_eq-Decides}
 use Rattle.std.specs.Borrow.{Bor}
-use Rattle.std.specs.Str.Parse.{digits_value, without_leading_plus}
+use Rattle.std.specs.Str.Parse.{IsNumeral, digits_value, without_leading_plus}
+use Rattle.std.specs.Result.{OkIff}
 use Rattle.std.specs.Box.{box_value}
 use Rattle.std.proofs.lemmas.Result.{IfOk-weaker, IfErr-weaker}
 use Rattle.clap.specs.Words.{Text, Row, first_of, is_simple, is_simple_and_free, App, Rule, AddsArg, AddsSubcommand, app_of, rule_of, with_rule, with_subcommand, FailsBy, HasKind, HasMatchesOf, fault_of, kind_of, read_as as value_read, subcommand_of, subcommand_rows_of, ReadsOne, one_text, first_value, rows_of, subcommand_name_of, Kinds}
@@ -24,8 +25,8 @@ use Rattle.clap.specs.declared.parser.matches.ArgMatches.TheViews.{out-ArgMatche
 use Rattle.clap.specs.declared.parser.matches.SubCommand.{SubCommand}
 use Rattle.clap.specs.declared.builder.value_parser.ValueParser.{ValueParser}
 use Rattle.command_line.specs.Commands.{Choices, program_app, parsed_rule, AreChoices, IsProgram, IsReadAs}
-use Rattle.command_line.specs.Requests.{HasNumber, HasCount, IsLeftOut, IsStyle, HasShape, spread_text, IsGoalSaid, IsGoalFault, AreCostsSaid, IsCostsFault, AreGroupsSaid, IsGroupsFault, AreOptions, OptionsFail, RunFails, AsksRun, AsksText, TextFails, WordsAsk, WordsFail}
-use Rattle.command_line.specs.declared.faults.NoRequest.TheVariants.{Usage, Goal, Costs, Groups, NoListing, Memory}
+use Rattle.command_line.specs.Requests.{HasNumber, HasCount, HasWorkers, HaveValues, LackValues, StyleFails, IsOther, IsLeftOut, IsStyle, HasShape, spread_text, IsGoalSaid, IsGoalFault, AreCostsSaid, IsCostsFault, AreGroupsSaid, IsGroupsFault, AreOptions, OptionsFail, RunFails, AsksRun, AsksText, TextFails, WordsAsk, WordsFail}
+use Rattle.command_line.specs.declared.faults.NoRequest.TheVariants.{Usage, Goal, Costs, Groups, NoListing, Memory, NoMatch}
 use Rattle.command_line.specs.declared.requests.Request.{Request}
 use Rattle.command_line.specs.declared.requests.Request.TheVariants.{Solve, Certify, Check, Draw, Upgrade, Replay, Boards, Help, Version}
 use Rattle.batch_runs.specs.declared.setup.SpreadKind.{SpreadKind}
@@ -33,7 +34,7 @@ use Rattle.batch_runs.specs.declared.setup.SpreadKind.TheVariants.{Zobrist, Blan
 use Rattle.drawings.specs.declared.drawing.Style.{Style}
 use Rattle.drawings.specs.declared.drawing.Style.TheVariants as style
 use Rattle.command_line.specs.declared.faults.NoRequest.{NoRequest}
-use Rattle.board.specs.Shapes.{ShapeModel}
+use Rattle.board.specs.Shapes.{ShapeModel, IsShape}
 use Rattle.board.specs.Boards.{BoardModel, goal_of}
 use Rattle.board.specs.Weights.{WeightsModel, unit_rule}
 use Rattle.board.specs.declared.faults.TilesFault.{TilesFault}
@@ -48,7 +49,7 @@ use Rattle.option_texts.proofs.CostLemmas.{one_rule, no_costs_fault}
 use Rattle.option_texts.proofs.LawLemmas.{no_groups_fault}
 use Rattle.command_line.specs.declared.requests.Options.{Options}
 use Rattle.command_line.specs.Laws.{IsWant, SearchesAreSaid, OptionsAreDetermined, ListingsAreDetermined, StylesAreDetermined, CertIsSaid, TextsAreOfFaults, UsageIsOfFaults, command_of, RequestsAreOfTheirCommands, RunsAreSaid, RunsWithoutBoardsAreAsked, RefusalsAreOfOptions, ListingsAreJudgedBeforeGoals, ChoicesAreThree}
-use Rattle.command_line.specs.Worked.{IsPlainSearch, WordsAskOneThing, WordsAreNotRefused}
+use Rattle.command_line.specs.Worked.{IsOutOfMemory, IsPlainSearch, WordsAskOneThing, WordsAreNotRefused}
 use Rattle.command_line.specs.Requests.{IsChoice, SaysListing, IsListFault, ListingFails}
 use Rattle.command_line.specs.declared.requests.Listing.{Listing}
 use Rattle.command_line.specs.declared.faults.ListFault.TheVariants.{NotAlone, TooManyCells}
@@ -113,15 +114,44 @@ refused_says spreads choices words refused kind (Err error) told = (program_app 
 
 -- ---- what a value that was read says of the matches
 
+some_text : (text text' : Text) → Some text ≡ Some text' → text ≡ text'
+some_text text text' e = cc
+
+-- texts that are numbers below `over`, and no others, are read
+abbrev pub ReadsBelow : (E : Type 0) → ℕ → (List ℕ → Result ℕ E → Type 0) → Type 0
+ReadsBelow E over gives = (t : Text) (r : Result ℕ E) → gives t r → OkIff r (IsNumeral 10 (without_leading_plus t) × (digits_value 10 (without_leading_plus t) < over)) (digits_value 10 (without_leading_plus t))
+
 -- a getter that read a number read it from the option's value
-pub number_read : (E : Type 0) (gives : List ℕ → Result ℕ E → Type 0) → ((t : Text) (n : ℕ) → gives t (Ok n) → n ≡ digits_value 10 (without_leading_plus t)) → (f : Found) (id : Text) (given : Option Text) → one_text f id ≡ given → (read : Option ℕ) → (given ≡ None → read ≡ None) → ((t : Text) → given ≡ Some t → ReadsOne gives t read) → IfSome read (HasNumber (rows_of f) id)
-number_read E gives exact f id None is read none value = rw (none refl) tt
-number_read E gives exact f id (Some t) is None none value = tt
-number_read E gives exact f id (Some t) is (Some n) none value = record {
-  text = t;
-  given = sym (one_text-rows f id) ∙ is;
-  value = exact t n (value t refl);
-}
+pub number_read : (E : Type 0) (over : ℕ) (gives : List ℕ → Result ℕ E → Type 0) → over ≤ 2 ^ 64 → ReadsBelow E over gives → (f : Found) (id : Text) (given : Option Text) → one_text f id ≡ given → (read : Option ℕ) → (given ≡ None → read ≡ None) → ((t : Text) → given ≡ Some t → ReadsOne gives t read) → IfSome read (HasNumber (rows_of f) id)
+number_read E over gives most exact f id None is read none value = rw (none refl) tt
+number_read E over gives most exact f id (Some t) is None none value = tt
+number_read E over gives most exact f id (Some t) is (Some n) none value =
+    let got = exact t (Ok n) (value t refl) in
+    record {
+      text = t;
+      given = sym (one_text-rows f id) ∙ is;
+      numeral = got.0.0;
+      value = got.1;
+      few = omega (arith, most, got.0.1, got.1);
+    }
+
+-- one that read none has no value that says a number below `over`
+pub number_lacks : (E : Type 0) (over : ℕ) (gives : List ℕ → Result ℕ E → Type 0) → ReadsBelow E over gives → (f : Found) (id : Text) (given : Option Text) → one_text f id ≡ given → (read : Option ℕ) → (given ≡ None → read ≡ None) → ((t : Text) → given ≡ Some t → ReadsOne gives t read) → IfNone read ((n : ℕ) → n < over → HasNumber (rows_of f) id n → ⊥)
+number_lacks E over gives exact f id None is read none value = rw (none refl) (λ n small has. let never : ◌≡◌ {A = Option Text} None (Some has.text) = sym is ∙ one_text-rows f id ∙ has.given in absurd (cc))
+number_lacks E over gives exact f id (Some t) is None none value = λ n small has.
+    let got = value t refl in
+    let same : has.text ≡ t = some_text has.text t (sym has.given ∙ sym (one_text-rows f id) ∙ is) in
+    let below : digits_value 10 (without_leading_plus has.text) < over = subst (λ (m : ℕ). m < over) has.value small in
+    exact t (Err got.0) got.1 (subst (λ (x : Text). IsNumeral 10 (without_leading_plus x)) same has.numeral, subst (λ (x : Text). digits_value 10 (without_leading_plus x) < over) same below)
+number_lacks E over gives exact f id (Some t) is (Some n) none value = tt
+
+lacks_any : (rows : List Row) (id : Text) (read : Option ℕ) → IfNone read ((n : ℕ) → n < 2 ^ 64 → HasNumber rows id n → ⊥) → IfNone read ((n : ℕ) → HasNumber rows id n → ⊥)
+lacks_any rows id None lacks = λ n has. lacks n has.few has
+lacks_any rows id (Some n) lacks = tt
+
+-- one that reads numbers of 64 bits, and read none, has no value that says a number
+pub any_lacks : (E : Type 0) (gives : List ℕ → Result ℕ E → Type 0) → ReadsBelow E (2 ^ 64) gives → (f : Found) (id : Text) (given : Option Text) → one_text f id ≡ given → (read : Option ℕ) → (given ≡ None → read ≡ None) → ((t : Text) → given ≡ Some t → ReadsOne gives t read) → IfNone read ((n : ℕ) → HasNumber (rows_of f) id n → ⊥)
+any_lacks E gives exact f id given is read none value = lacks_any (rows_of f) id read (number_lacks E (2 ^ 64) gives exact f id given is read none value)
 
 -- a getter that gave a text gave the option's value
 pub text_read : (f : Found) (id : Text) (read : Option (Bor Text)) (text : Bor Text) (word : Text) → option_map (λ t. t.now) read ≡ first_value f id → read ≡ Some text → text.now ≡ word → first_of id (rows_of f) ≡ Some word
@@ -163,10 +193,11 @@ name_beside (Some b) = refl
 pub names_agree : (m : ArgMatches) → option_map (λ p. p.0) (subcommand_rows_of m) ≡ subcommand_name_of m
 names_agree m = name_beside (out-ArgMatches m).subcommand
 
--- where it is neither `check` nor `upgrade` memory may be refused
-pub memory_fails : (subcommand : Option (Text × List Row)) → (option_map (λ p. p.0) subcommand ≢ Some (codes "check")) → (option_map (λ p. p.0) subcommand ≢ Some (codes "upgrade")) → RunFails subcommand Memory
-memory_fails None other another = refl
-memory_fails (Some p) other another = (λ is. other (ap Some is), λ is. another (ap Some is), λ is. refl, λ is. tt, λ is. tt)
+-- where it is none of the program's subcommands
+pub others_fail : (subcommand : Option (Text × List Row)) → (option_map (λ p. p.0) subcommand ≢ Some (codes "solve")) → (option_map (λ p. p.0) subcommand ≢ Some (codes "replay")) → (option_map (λ p. p.0) subcommand ≢ Some (codes "show")) → (option_map (λ p. p.0) subcommand ≢ Some (codes "boards")) → (option_map (λ p. p.0) subcommand ≢ Some (codes "check")) → (option_map (λ p. p.0) subcommand ≢ Some (codes "upgrade")) → RunFails subcommand NoMatch
+others_fail None solve replay show boards check upgrade = refl
+others_fail (Some p) solve replay show boards check upgrade =
+    ((λ is. check (ap Some is)), (λ is. upgrade (ap Some is)), (λ is. absurd (show (ap Some is))), (λ is. absurd (boards (ap Some is))), (λ is. absurd (solve (ap Some is))), (λ is. absurd (replay (ap Some is))), (λ is. refl))
 
 -- ---- what arguments ask for, or why they ask for nothing, by what a parse of them says
 
@@ -200,9 +231,6 @@ run_fails f given some subcommand parse result fails =
 
 -- ---- What options say is one thing, and has no fault.
 
-some_text : (text text' : Text) → Some text ≡ Some text' → text ≡ text'
-some_text text text' e = cc
-
 one_number : (rows : List Row) (id : Text) (n m : ℕ) → HasNumber rows id n → HasNumber rows id m → m ≡ n
 one_number rows id n m first second =
     let same : first.text ≡ second.text = some_text first.text second.text (sym first.given ∙ second.given) in
@@ -213,6 +241,87 @@ one_shape rows grid grid' first second =
     let tall : grid'.rows ≡ grid.rows = one_number rows (codes "rows") grid.rows grid'.rows first.tall second.tall in
     let wide : grid'.cols ≡ grid.cols = one_number rows (codes "cols") grid.cols grid'.cols first.wide second.wide in
     λ i. record { rows = tall i; cols = wide i }
+
+-- ---- where an option lacks a value that it may have
+
+pub if_none : {T : Type 0} → (r : Option T) (P : Type 0) → P → IfNone r P
+if_none None P holds = holds
+if_none (Some x) P holds = tt
+
+pub no_rows : (rows : List Row) → ((n : ℕ) → n < 256 → HasNumber rows (codes "rows") n → ⊥) → (grid : ShapeModel) → HasShape rows grid → ⊥
+no_rows rows lacks grid has = lacks grid.rows (omega (arith, has.small.rows_high)) has.tall
+
+pub no_cols : (rows : List Row) → ((n : ℕ) → n < 256 → HasNumber rows (codes "cols") n → ⊥) → (grid : ShapeModel) → HasShape rows grid → ⊥
+no_cols rows lacks grid has = lacks grid.cols (omega (arith, has.small.cols_high)) has.wide
+
+pub no_shape : (rows : List Row) (tall wide : ℕ) → HasNumber rows (codes "rows") tall → HasNumber rows (codes "cols") wide → (IsShape (record { rows = tall; cols = wide }) → ⊥) → (grid : ShapeModel) → HasShape rows grid → ⊥
+no_shape rows tall wide first second large grid has =
+    let down : grid.rows ≡ tall = one_number rows (codes "rows") tall grid.rows first has.tall in
+    let over : grid.cols ≡ wide = one_number rows (codes "cols") wide grid.cols second has.wide in
+    large (subst IsShape (λ i. record { rows = down i; cols = over i }) has.small)
+
+pub lack_shape : (rows : List Row) → ((grid : ShapeModel) → HasShape rows grid → ⊥) → LackValues rows
+lack_shape rows lacks grid workers limit spread have = lacks grid have.shape
+
+pub lack_workers : (rows : List Row) → ((n : ℕ) → HasWorkers rows n → ⊥) → LackValues rows
+lack_workers rows lacks grid workers limit spread have = lacks workers have.count
+
+pub lack_spread : (rows : List Row) → ((spread : SpreadKind) → first_of (codes "spread") rows ≡ Some (spread_text spread) → ⊥) → LackValues rows
+lack_spread rows lacks grid workers limit spread have = lacks spread have.word
+
+pub lack_limit : (rows : List Row) → ((n : ℕ) → HasNumber rows (codes "limit") n → ⊥) → LackValues rows
+lack_limit rows lacks grid workers limit spread have = lacks limit have.most
+
+pub no_workers : (rows : List Row) → ((n : ℕ) → n < 256 → HasNumber rows (codes "workers") n → ⊥) → (n : ℕ) → HasWorkers rows n → ⊥
+no_workers rows lacks n has = lacks n (omega (arith, has.few)) has.count
+
+pub none_or_many : (rows : List Row) (workers : ℕ) → HasNumber rows (codes "workers") workers → (1 ≤ workers → workers ≤ 16 → ⊥) → (n : ℕ) → HasWorkers rows n → ⊥
+none_or_many rows workers count wrong n has =
+    let same : n ≡ workers = one_number rows (codes "workers") workers n count has.count in
+    wrong (omega (arith, has.some, same)) (omega (arith, has.few, same))
+
+pub no_spread : (f : Found) → ◌≡◌ {A = Option Text} None (first_value f (codes "spread")) → (spread : SpreadKind) → first_of (codes "spread") (rows_of f) ≡ Some (spread_text spread) → ⊥
+no_spread f given spread is =
+    let never : ◌≡◌ {A = Option Text} None (Some (spread_text spread)) = given ∙ first_value-rows f (codes "spread") ∙ is in
+    absurd (cc)
+
+other_word : (f : Found) (text word : Text) → Some text ≡ first_value f (codes "spread") → false ≡ bytes_eq text word → first_of (codes "spread") (rows_of f) ≡ Some word → ⊥
+other_word f text word given test is = true≢false (sym ((word_told f (codes "spread") text word false given test).1 is))
+
+pub other_spread : (f : Found) (text : Text) → Some text ≡ first_value f (codes "spread") → false ≡ bytes_eq text (codes "zobrist") → false ≡ bytes_eq text (codes "blank") → false ≡ bytes_eq text (codes "abstract") → (spread : SpreadKind) → first_of (codes "spread") (rows_of f) ≡ Some (spread_text spread) → ⊥
+other_spread f text given first second third Zobrist is = other_word f text (codes "zobrist") given first is
+other_spread f text given first second third Blank is = other_word f text (codes "blank") given second is
+other_spread f text given first second third Abstract is = other_word f text (codes "abstract") given third is
+
+pub no_seconds : (rows : List Row) → IsTrue true ↔ (first_of (codes "svg") rows ≡ Some (codes "true")) → ((n : ℕ) → n < 256 → HasNumber rows (codes "seconds") n → ⊥) → (look : Style) → IsStyle rows look → ⊥
+no_seconds rows svg lacks (style.Text width) is = is.2 (svg.0 refl)
+no_seconds rows svg lacks (style.Svg seconds) is = lacks seconds is.1 is.0
+
+pub no_width : (rows : List Row) → IsTrue false ↔ (first_of (codes "svg") rows ≡ Some (codes "true")) → ((n : ℕ) → n < 65536 → HasNumber rows (codes "width") n → ⊥) → (look : Style) → IsStyle rows look → ⊥
+no_width rows text lacks (style.Text width) is = lacks width is.1 is.0
+no_width rows text lacks (style.Svg seconds) is = true≢false (sym (text.1 is.2))
+
+pub no_count : (rows : List Row) (read : Option ℕ) → IsTrue false ↔ IsLeftOut rows (codes "count") → IfNone read ((n : ℕ) → HasNumber rows (codes "count") n → ⊥) → IfNone read ((n : ℕ) → HasCount rows n → ⊥)
+no_count rows None given lacks = λ n has. elim has [
+  | inl out ↦ true≢false (sym (given.1 out.0))
+  | inr number ↦ lacks n number
+]
+no_count rows (Some n) given lacks = tt
+
+pub no_draws : (rows : List Row) → ((first_of (codes "all") rows ≡ Some (codes "true")) → ⊥) → ((n : ℕ) → HasCount rows n → ⊥) → (choice : Choice) → IsChoice rows choice → ⊥
+no_draws rows some lacks (Drawn count seed) is = lacks count is.2
+no_draws rows some lacks (Walked moves count seed) is = lacks count is.2
+no_draws rows some lacks Whole is = some is.0
+
+pub no_seed : (rows : List Row) → ((first_of (codes "all") rows ≡ Some (codes "true")) → ⊥) → ((n : ℕ) → HasNumber rows (codes "seed") n → ⊥) → (choice : Choice) → IsChoice rows choice → ⊥
+no_seed rows some lacks (Drawn count seed) is = lacks seed is.3
+no_seed rows some lacks (Walked moves count seed) is = lacks seed is.3
+no_seed rows some lacks Whole is = some is.0
+
+pub no_moves : (rows : List Row) → ((first_of (codes "all") rows ≡ Some (codes "true")) → ⊥) → IsTrue false ↔ IsLeftOut rows (codes "moves") → ((n : ℕ) → HasNumber rows (codes "moves") n → ⊥) → (choice : Choice) → IsChoice rows choice → ⊥
+no_moves rows some given lacks (Drawn count seed) is = true≢false (sym (given.1 is.1))
+no_moves rows some given lacks (Walked moves count seed) is = lacks moves is.1
+no_moves rows some given lacks Whole is = some is.0
 
 pub one_goal_said : (grid : ShapeModel) (text : Option Text) (goal goal' : BoardModel) → IsGoalSaid grid text goal → IsGoalSaid grid text goal' → goal' ≡ goal
 one_goal_said grid None goal goal' first second = second ∙ sym first
@@ -248,7 +357,8 @@ options_no_fault rows o (Groups fault) sound said (grid, shape, goal, goal_said,
     let same = one_shape rows grid o.goal.grid shape said.shape in
     groups_no_fault o.goal.grid (first_of (codes "groups") rows) o.groups fault sound said.groups (subst (λ (g : ShapeModel). IsGroupsFault g (first_of (codes "groups") rows) fault) (sym same) first)
 options_no_fault rows o (NoListing fault) sound said never = never
-options_no_fault rows o Memory sound said fails = tt
+options_no_fault rows o (Memory error) sound said never = never
+options_no_fault rows o NoMatch sound said lack = lack o.goal.grid o.workers o.limit o.spread (record { shape = said.shape; count = said.workers; word = said.spread; most = said.limit })
 
 -- ---- Boards that are said have no fault.
 
@@ -274,7 +384,8 @@ listing_no_fault rows l (Costs fault) said never = never
 listing_no_fault rows l (Groups fault) said never = absurd never
 listing_no_fault rows l (NoListing NotAlone) said fails = alone rows l.choice said.choice fails
 listing_no_fault rows l (NoListing TooManyCells) said fails = few_cells rows l l.choice refl said fails
-listing_no_fault rows l Memory said fails = tt
+listing_no_fault rows l (Memory error) said never = never
+listing_no_fault rows l NoMatch said lack = lack l.goal.grid l.choice said.shape said.choice
 
 -- ---- one after the other
 
@@ -371,8 +482,8 @@ one_listing rows l l' says says' =
 
 pub one_style : StylesAreDetermined
 one_style rows (style.Text width) (style.Text width') first second = ap (λ (n : ℕ). style.Text n) (one_number rows (codes "width") width width' first.0 second.0)
-one_style rows (style.Text width) (style.Svg seconds) first second = absurd (first.1 second.1)
-one_style rows (style.Svg seconds) (style.Text width) first second = absurd (second.1 first.1)
+one_style rows (style.Text width) (style.Svg seconds) first second = absurd (first.2 second.2)
+one_style rows (style.Svg seconds) (style.Text width) first second = absurd (second.2 first.2)
 one_style rows (style.Svg seconds) (style.Svg seconds') first second = ap (λ (n : ℕ). style.Svg n) (one_number rows (codes "seconds") seconds seconds' first.0 second.0)
 
 -- ---- what asks for a certificate, and for texts
@@ -397,7 +508,8 @@ usage_of_fault faults (Goal fault) fails = absurd fails
 usage_of_fault faults (Costs fault) fails = absurd fails
 usage_of_fault faults (Groups fault) fails = absurd fails
 usage_of_fault faults (NoListing fault) fails = absurd fails
-usage_of_fault faults Memory fails = inl refl
+usage_of_fault faults (Memory error) fails = inl (error, refl, fails)
+usage_of_fault faults NoMatch fails = absurd fails
 
 -- ---- which subcommand asks for a run, and why it asks for none
 
@@ -419,7 +531,7 @@ pub always_asked : RunsWithoutBoardsAreAsked
 always_asked rows refusal = ((λ fails. fails.0 refl), (λ fails. fails.1 refl), (λ fails. fails.2 refl))
 
 pub refusal_of_options : RefusalsAreOfOptions
-refusal_of_options name rows refusal fails = (fails.3, fails.4)
+refusal_of_options name rows refusal fails = (fails.3, fails.4, fails.5)
 
 pub listing_before_goal : ListingsAreJudgedBeforeGoals
 listing_before_goal rows NotAlone later fails (grid, choice, shape, chosen, small, first) = alone rows choice chosen fails
@@ -550,7 +662,7 @@ show_asked : (request : Request) → WordsAsk (codes "show" ∷ codes "--svg" �
 unfolding clap_on_literals
 show_asked request asks =
     let run = words_run (codes "show") (codes "--svg" ∷ codes "--seconds" ∷ codes "2" ∷ []) request (λ spreads choices. refl) asks in
-    of_show _ (style.Svg 2) request (record { text = codes "2"; given = refl; value = refl }, refl) (one_command (codes "show") _ request run.1) run.1
+    of_show _ (style.Svg 2) request (record { text = codes "2"; given = refl; numeral = (omega arith, (omega arith, tt)); value = refl; few = omega arith }, omega arith, refl) (one_command (codes "show") _ request run.1) run.1
 
 replay_asked : (request : Request) → WordsAsk (codes "replay" ∷ codes "--rows" ∷ codes "3" ∷ codes "--cols" ∷ codes "4" ∷ []) request → (o : Options) × (request ≡ Replay o)
 unfolding clap_on_literals
@@ -596,27 +708,70 @@ solve_asked request asks =
     let words : List Text = codes "--rows" ∷ codes "3" ∷ codes "--cols" ∷ codes "4" ∷ codes "--spread" ∷ codes "abstract" ∷ [] in
     let run = words_run (codes "solve") words request (on_choices (λ spreads. fault_of (program_app spreads) (codes "solve" ∷ words) ≡ []) (λ p x y z. refl)) asks in
     let is = of_solve _ request not_true (one_command (codes "solve") _ request run.1) run.1 in
-    (is.0, is.1, plain_search _ is.0 is.2 (record { tall = record { text = codes "3"; given = refl; value = refl }; wide = record { text = codes "4"; given = refl; value = refl } }) refl refl (record { text = codes "1"; given = refl; value = refl }) refl (record { text = codes "18446744073709551615"; given = refl; value = refl }))
+    (is.0, is.1, plain_search _ is.0 is.2 (record { tall = record { text = codes "3"; given = refl; numeral = (omega arith, (omega arith, tt)); value = refl; few = omega arith }; wide = record { text = codes "4"; given = refl; numeral = (omega arith, (omega arith, tt)); value = refl; few = omega arith }; small = record { rows_low = omega arith; rows_high = omega arith; cols_low = omega arith; cols_high = omega arith } }) refl refl (record { text = codes "1"; given = refl; numeral = (omega arith, (omega arith, tt)); value = refl; few = omega arith }) refl (record { text = codes "18446744073709551615"; given = refl; numeral = (omega arith, (omega arith, (omega arith, (omega arith, (omega arith, (omega arith, (omega arith, (omega arith, (omega arith, (omega arith, (omega arith, (omega arith, (omega arith, (omega arith, (omega arith, (omega arith, (omega arith, (omega arith, (omega arith, (omega arith, (omega arith, tt))))))))))))))))))))); value = refl; few = omega arith }))
 
 pub words_ask_one_thing : WordsAskOneThing
 words_ask_one_thing = record { check = check_asked; upgrade = upgrade_asked; drawing = show_asked; replay = replay_asked; solve = solve_asked }
 
 -- where there is no fault only memory is refused
-only_memory : (refusal : NoRequest) → TextFails [] refusal → refusal ≡ Memory
+abbrev LacksMemory : NoRequest → Type 0
+LacksMemory refusal = (error : Error) × (refusal ≡ Memory error) × (kind_of error ≡ OutOfMemory)
+
+only_memory : (refusal : NoRequest) → TextFails [] refusal → LacksMemory refusal
 only_memory (Usage text) (kind, among, help, version) = absurd among
 only_memory (Goal fault) fails = absurd fails
 only_memory (Costs fault) fails = absurd fails
 only_memory (Groups fault) fails = absurd fails
 only_memory (NoListing fault) fails = absurd fails
-only_memory Memory fails = refl
+only_memory (Memory error) fails = (error, refl, fails)
+only_memory NoMatch fails = absurd fails
 
-check_refused : (refusal : NoRequest) → WordsFail (codes "check" ∷ []) refusal → refusal ≡ Memory
+-- so it is with words in which a parse finds no fault, unless the run fails that they ask for
+words_refused : (word : Text) (words : List Text) (refusal : NoRequest) → ((spreads : Choices) → AreChoices spreads → fault_of (program_app spreads) (word ∷ words) ≡ []) → WordsFail (word ∷ words) refusal → LacksMemory refusal ⊎ ((spreads : Choices) × RunFails (subcommand_of (program_app spreads) (word ∷ words)) refusal)
+words_refused word words refusal fine (program, (spreads, choices, is), inl text) =
+    let none : fault_of program (word ∷ words) ≡ [] = ap (λ (p : App). fault_of p (word ∷ words)) is ∙ fine spreads choices in
+    inl (only_memory refusal (subst (λ (f : Kinds). TextFails f refusal) none text))
+words_refused word words refusal fine (program, (spreads, choices, is), inr fails) =
+    inr (spreads, subst (λ (p : App). RunFails (subcommand_of p (word ∷ words)) refusal) is fails.1)
+
+check_refused : (refusal : NoRequest) → WordsFail (codes "check" ∷ []) refusal → LacksMemory refusal
 unfolding clap_on_literals
-check_refused refusal (program, (spreads, choices, is), inl text) =
-    only_memory refusal (subst (λ (p : App). TextFails (fault_of p (codes "check" ∷ [])) refusal) is text)
-check_refused refusal (program, (spreads, choices, is), inr fails) =
-    let run = subst (λ (p : App). RunFails (subcommand_of p (codes "check" ∷ [])) refusal) is fails.1 in
-    absurd (run.0 refl)
+check_refused refusal fails = elim (words_refused (codes "check") [] refusal (λ spreads choices. refl) fails) [
+  | inl lacks ↦ lacks
+  | inr run ↦ absurd (run.1.0 refl)
+]
+
+show_refused : (refusal : NoRequest) → WordsFail (codes "show" ∷ codes "--svg" ∷ codes "--seconds" ∷ codes "2" ∷ []) refusal → LacksMemory refusal
+unfolding clap_on_literals
+show_refused refusal fails = elim (words_refused (codes "show") (codes "--svg" ∷ codes "--seconds" ∷ codes "2" ∷ []) refusal (λ spreads choices. refl) fails) [
+  | inl lacks ↦ lacks
+  | inr run ↦ absurd ((run.1.2 refl).1 (style.Svg 2) (record { text = codes "2"; given = refl; numeral = (omega arith, (omega arith, tt)); value = refl; few = omega arith }, omega arith, refl))
+]
+
+out_of_memory : (refusal : NoRequest) → LacksMemory refusal → IsOutOfMemory refusal
+out_of_memory refusal (error, is, kind) = subst IsOutOfMemory (sym is) kind
+
+-- without texts of a goal and of groups, and at unit cost, options fail only where memory is refused for the groups
+plain_refused : (rows : List Row) (refusal : NoRequest) → (first_of (codes "goal") rows ≡ None) → (first_of (codes "cost") rows ≡ Some (codes "unit")) → (first_of (codes "groups") rows ≡ None) → (grid : ShapeModel) (workers limit : ℕ) (spread : SpreadKind) → HaveValues rows grid workers limit spread → OptionsFail rows refusal → IsOutOfMemory refusal
+plain_refused rows (Usage text) no_goal unit no_groups grid workers limit spread have fails = fails
+plain_refused rows (Goal fault) no_goal unit no_groups grid workers limit spread have (grid', shape, first) =
+    subst (λ (t : Option Text). IsGoalFault grid' t fault) no_goal first
+plain_refused rows (Costs fault) no_goal unit no_groups grid workers limit spread have (grid', shape, goal, said, first) =
+    costs_no_fault grid' (Some (codes "unit")) (unit_rule grid') fault (inl (refl, refl)) (subst (λ (t : Option Text). IsCostsFault grid' t fault) unit first)
+plain_refused rows (Groups fault) no_goal unit no_groups grid workers limit spread have (grid', shape, goal, said, rule, costs, first) =
+    subst (λ (t : Option Text). IsGroupsFault grid' t fault) no_groups first
+plain_refused rows (NoListing fault) no_goal unit no_groups grid workers limit spread have fails = fails
+plain_refused rows (Memory error) no_goal unit no_groups grid workers limit spread have fails = absurd fails
+plain_refused rows NoMatch no_goal unit no_groups grid workers limit spread have lack = absurd (lack grid workers limit spread have)
+
+solve_refused : (refusal : NoRequest) → WordsFail (codes "solve" ∷ codes "--rows" ∷ codes "3" ∷ codes "--cols" ∷ codes "4" ∷ codes "--spread" ∷ codes "abstract" ∷ []) refusal → IsOutOfMemory refusal
+unfolding clap_on_literals
+solve_refused refusal fails =
+    let words : List Text = codes "--rows" ∷ codes "3" ∷ codes "--cols" ∷ codes "4" ∷ codes "--spread" ∷ codes "abstract" ∷ [] in
+    elim (words_refused (codes "solve") words refusal (on_choices (λ spreads. fault_of (program_app spreads) (codes "solve" ∷ words) ≡ []) (λ p x y z. refl)) fails) [
+      | inl lacks ↦ out_of_memory refusal lacks
+      | inr run ↦ plain_refused _ refusal refl refl refl twelve 1 18446744073709551615 Abstract (record { shape = record { tall = record { text = codes "3"; given = refl; numeral = (omega arith, (omega arith, tt)); value = refl; few = omega arith }; wide = record { text = codes "4"; given = refl; numeral = (omega arith, (omega arith, tt)); value = refl; few = omega arith }; small = record { rows_low = omega arith; rows_high = omega arith; cols_low = omega arith; cols_high = omega arith } }; count = record { count = record { text = codes "1"; given = refl; numeral = (omega arith, (omega arith, tt)); value = refl; few = omega arith }; some = omega arith; few = omega arith }; word = refl; most = record { text = codes "18446744073709551615"; given = refl; numeral = (omega arith, (omega arith, (omega arith, (omega arith, (omega arith, (omega arith, (omega arith, (omega arith, (omega arith, (omega arith, (omega arith, (omega arith, (omega arith, (omega arith, (omega arith, (omega arith, (omega arith, (omega arith, (omega arith, (omega arith, (omega arith, tt))))))))))))))))))))); value = refl; few = omega arith } }) (run.1.4 refl)
+    ]
 
 pub words_are_not_refused : WordsAreNotRefused
-words_are_not_refused = record { check = check_refused }
+words_are_not_refused = record { check = check_refused; show = show_refused; solve = solve_refused }

@@ -4,7 +4,7 @@ use Rattle.board.specs.Faults.{tiles_code, weights_code}
 use Rattle.option_texts.specs.Faults.{groups_code}
 use Rattle.option_texts.specs.declared.faults.GroupsFault.TheVariants as groups
 use Rattle.command_line.specs.declared.faults.NoRequest.{NoRequest}
-use Rattle.command_line.specs.declared.faults.NoRequest.TheVariants.{Usage, Goal, Costs, Groups, NoListing, Memory}
+use Rattle.command_line.specs.declared.faults.NoRequest.TheVariants.{Usage, Goal, Costs, Groups, NoListing, Memory, NoMatch}
 use Rattle.command_line.specs.declared.faults.ListFault.{ListFault}
 use Rattle.command_line.specs.declared.faults.ListFault.TheVariants.{NotAlone, TooManyCells}
 
@@ -17,7 +17,8 @@ refusal_status (Groups (groups.NoGroup fault)) = 2
 refusal_status (Groups (groups.NoPartition fault)) = 2
 refusal_status (Groups (groups.Memory refused)) = 4
 refusal_status (NoListing fault) = 2
-refusal_status Memory = 4
+refusal_status (Memory error) = 4
+refusal_status NoMatch = 4
 
 -- a code as a line for standard error
 abbrev pub coded_line : List ℕ → List ℕ
@@ -35,4 +36,5 @@ refusal_message (Goal fault) = coded_line (tiles_code fault)
 refusal_message (Costs fault) = coded_line (weights_code fault)
 refusal_message (Groups fault) = coded_line (groups_code fault)
 refusal_message (NoListing fault) = list_line fault
-refusal_message Memory = coded_line (codes "memory")
+refusal_message (Memory error) = coded_line (codes "memory")
+refusal_message NoMatch = coded_line (codes "memory")

@@ -1,9 +1,10 @@
 -- The laws of what options say. Each is the contract of a function that does nothing.
 use Rattle.std.specs.Prelude.{◌≡◌, ◌≢◌, ◌≤◌, ◌⊎◌, ◌↔◌, ⊤, List, [], ◌∷◌, Option, None, Some, IsTrue, String, false, codes, map}
 use Rattle.std.specs.declared.alloc.Global.{Global}
-use Rattle.clap.specs.Words.{Text, Row, Kinds, IsAmong, first_of}
+use Rattle.clap.specs.Words.{Text, Row, Kinds, IsAmong, first_of, kind_of}
 use Rattle.clap.specs.declared.error.kind.ErrorKind.{ErrorKind}
-use Rattle.clap.specs.declared.error.kind.ErrorKind.TheVariants.{DisplayHelp, DisplayVersion}
+use Rattle.clap.specs.declared.error.kind.ErrorKind.TheVariants.{DisplayHelp, DisplayVersion, OutOfMemory}
+use Rattle.clap.specs.declared.error.Error.{Error}
 use Rattle.board.specs.Shapes.{ShapeModel}
 use Rattle.board.specs.Boards.{BoardModel}
 use Rattle.board.specs.Weights.{WeightsModel}
@@ -19,8 +20,8 @@ use Rattle.command_line.specs.declared.requests.Request.{Request}
 use Rattle.command_line.specs.declared.requests.Request.TheVariants.{Solve, Certify, Check, Draw, Upgrade, Replay, Boards, Help, Version}
 use Rattle.command_line.specs.declared.faults.NoRequest.{NoRequest}
 use Rattle.command_line.specs.declared.faults.ListFault.{ListFault}
-use Rattle.command_line.specs.declared.faults.NoRequest.TheVariants.{Usage, Goal, Costs, Groups, NoListing, Memory}
-use Rattle.command_line.specs.Requests.{HasNumber, HasShape, IsGoalSaid, IsGoalFault, AreCostsSaid, IsCostsFault, IsSet, IsStyle, AreOptions, AreDefaults, OptionsFail, SaysListing, ListingFails, AsksRun, RunFails, AsksText, TextFails, spread_text}
+use Rattle.command_line.specs.declared.faults.NoRequest.TheVariants.{Usage, Goal, Costs, Groups, NoListing, Memory, NoMatch}
+use Rattle.command_line.specs.Requests.{HasNumber, HasShape, IsGoalSaid, IsGoalFault, AreCostsSaid, IsCostsFault, IsSet, IsStyle, AreOptions, AreDefaults, OptionsFail, SaysListing, ListingFails, AsksRun, RunFails, AsksText, TextFails, StyleFails, spread_text}
 use Rattle.command_line.specs.Commands.{Choices, AreChoices}
 
 -- the rows and columns say one shape
@@ -41,16 +42,17 @@ SaidCostsAreDetermined = (grid : ShapeModel) (text : Option Text) (rule rule' : 
 abbrev pub SaidCostsHaveNoFault : Type 0
 SaidCostsHaveNoFault = (grid : ShapeModel) (text : Option Text) (rule : WeightsModel) (fault : WeightsFault) → AreCostsSaid grid text rule → ¬ IsCostsFault grid text fault
 
--- memory is refused, which the arguments don't decide
+-- memory is refused for the groups, which the options don't decide
 abbrev pub IsWant : NoRequest → Type 0
 IsWant (Usage text) = ⊥
 IsWant (Goal fault) = ⊥
 IsWant (Costs fault) = ⊥
 IsWant (Groups fault) = IsMemoryRefusal fault
 IsWant (NoListing fault) = ⊥
-IsWant Memory = ⊤
+IsWant (Memory error) = ⊥
+IsWant NoMatch = ⊥
 
--- options that are said have no fault, except that memory may be refused
+-- options that are said have no fault, except that memory may be refused for their groups
 abbrev pub OptionsHaveNoFault : Type 0
 OptionsHaveNoFault = (rows : List Row) (o : Options) (refusal : NoRequest) → IsPartition o.groups → AreOptions rows o → OptionsFail rows refusal → IsWant refusal
 
@@ -114,12 +116,12 @@ TextsAreOfFaults =
     → AsksText faults request
     → (text : String Global) × (((request ≡ Help text) × IsAmong DisplayHelp faults) ⊎ ((request ≡ Version text) × IsAmong DisplayVersion faults))
 
--- where a parse with faults asks for nothing, one of them is neither and usage is shown, or memory was refused
+-- where a parse with faults asks for nothing, one of them is neither and usage is shown, or the parser's error says that memory was refused
 abbrev pub UsageIsOfFaults : Type 0
 UsageIsOfFaults =
     (faults : Kinds) (refusal : NoRequest)
     → TextFails faults refusal
-    → (refusal ≡ Memory) ⊎ ((text : String Global) × (refusal ≡ Usage text) × ((kind : ErrorKind) × IsAmong kind faults × (kind ≢ DisplayHelp) × (kind ≢ DisplayVersion)))
+    → ((error : Error) × (refusal ≡ Memory error) × (kind_of error ≡ OutOfMemory)) ⊎ ((text : String Global) × (refusal ≡ Usage text) × ((kind : ErrorKind) × IsAmong kind faults × (kind ≢ DisplayHelp) × (kind ≢ DisplayVersion)))
 
 -- the subcommand that asks for a run; help and the version are no runs
 abbrev pub command_of : Request → Option Text
@@ -147,18 +149,18 @@ RunsAreSaid =
     × (AsksRun (Some (name, rows)) (Draw look) → IsStyle rows look)
     × (AsksRun (Some (name, rows)) (Boards l) → SaysListing rows l)
 
--- `check` and `upgrade` are never refused, and `show` only where memory is
+-- `check` and `upgrade` are never refused, and `show` only where its options say no drawing
 abbrev pub RunsWithoutBoardsAreAsked : Type 0
 RunsWithoutBoardsAreAsked =
     (rows : List Row) (refusal : NoRequest)
-    → (¬ RunFails (Some (codes "check", rows)) refusal) × (¬ RunFails (Some (codes "upgrade", rows)) refusal) × (RunFails (Some (codes "show", rows)) refusal → refusal ≡ Memory)
+    → (¬ RunFails (Some (codes "check", rows)) refusal) × (¬ RunFails (Some (codes "upgrade", rows)) refusal) × (RunFails (Some (codes "show", rows)) refusal → StyleFails rows refusal)
 
--- `boards` is refused only for the boards that its options say, and each other subcommand only for its options
+-- `boards` is refused only for the boards that its options say, and `solve` and `replay` only for their options
 abbrev pub RefusalsAreOfOptions : Type 0
 RefusalsAreOfOptions =
     (name : Text) (rows : List Row) (refusal : NoRequest)
     → RunFails (Some (name, rows)) refusal
-    → (name ≡ codes "boards" → ListingFails rows refusal) × (name ≢ codes "boards" → OptionsFail rows refusal)
+    → (name ≡ codes "boards" → ListingFails rows refusal) × (name ≡ codes "solve" → OptionsFail rows refusal) × (name ≡ codes "replay" → OptionsFail rows refusal)
 
 -- which boards are listed is judged before the goal
 abbrev pub ListingsAreJudgedBeforeGoals : Type 0

@@ -1,10 +1,10 @@
 -- What the arguments of a command line ask for.
-use Rattle.std.specs.Prelude.{ℕ, ◌≡◌, ◌≢◌, ◌≤◌, ◌⊎◌, ◌↔◌, ◌-◌, ◌^◌, false, IsTrue, List, [], ◌∷◌, Option, Some, None, codes, option_map, map, ⊤}
-use Rattle.std.specs.Str.Parse.{digits_value, without_leading_plus}
-use Rattle.clap.specs.Words.{Text, Row, App, Kinds, IsAmong, first_of, one_of, fault_of, subcommand_of}
+use Rattle.std.specs.Prelude.{ℕ, ◌≡◌, ◌≢◌, ◌≤◌, ◌⊎◌, ◌↔◌, ◌-◌, ◌^◌, ◌<◌, false, IsTrue, List, [], ◌∷◌, Option, Some, None, codes, option_map, map, ⊤}
+use Rattle.std.specs.Str.Parse.{IsNumeral, digits_value, without_leading_plus}
+use Rattle.clap.specs.Words.{Text, Row, App, Kinds, IsAmong, kind_of, first_of, one_of, fault_of, subcommand_of}
 use Rattle.clap.specs.declared.error.kind.ErrorKind.{ErrorKind}
-use Rattle.clap.specs.declared.error.kind.ErrorKind.TheVariants.{DisplayHelp, DisplayVersion}
-use Rattle.board.specs.Shapes.{ShapeModel}
+use Rattle.clap.specs.declared.error.kind.ErrorKind.TheVariants.{DisplayHelp, DisplayVersion, OutOfMemory}
+use Rattle.board.specs.Shapes.{ShapeModel, IsShape}
 use Rattle.board.specs.Boards.{BoardModel, goal_of}
 use Rattle.board.specs.Weights.{WeightsModel, unit_rule}
 use Rattle.pattern_index.specs.Partitions.{PartitionModel}
@@ -31,16 +31,18 @@ use Rattle.command_line.specs.declared.faults.ListFault.{ListFault}
 use Rattle.command_line.specs.declared.faults.ListFault.TheVariants.{NotAlone, TooManyCells}
 use Rattle.command_line.specs.declared.values.Values.{Values}
 use Rattle.command_line.specs.declared.faults.NoRequest.{NoRequest}
-use Rattle.command_line.specs.declared.faults.NoRequest.TheVariants.{Usage, Goal, Costs, Groups, NoListing, Memory}
+use Rattle.command_line.specs.declared.faults.NoRequest.TheVariants.{Usage, Goal, Costs, Groups, NoListing, Memory, NoMatch}
 use Rattle.command_line.specs.Commands.{IsProgram}
 
 -- ---- values of options
 
--- the option has a value, whose digits say this number
+-- the option has a value: decimal digits, with or without a plus, that say this number of at most 64 bits
 pub record HasNumber (rows : List Row) (id : Text) (n : ℕ) : Type 0 where
   pub text : Text
   pub given : one_of id rows ≡ Some text
+  pub numeral : IsNumeral 10 (without_leading_plus text)
   pub value : n ≡ digits_value 10 (without_leading_plus text)
+  pub few : n < 2 ^ 64
 
 abbrev pub spread_text : SpreadKind → Text
 spread_text Zobrist = codes "zobrist"
@@ -51,10 +53,11 @@ spread_text Abstract = codes "abstract"
 abbrev pub IsSet : List Row → Text → Type 0
 IsSet rows id = first_of id rows ≡ Some (codes "true")
 
--- the shape that the rows and columns say
+-- the shape that the rows and columns say, each from 2 to 5
 pub record HasShape (rows : List Row) (grid : ShapeModel) : Type 0 where
   pub tall : HasNumber rows (codes "rows") grid.rows
   pub wide : HasNumber rows (codes "cols") grid.cols
+  pub small : IsShape grid
 
 -- how many workers are said, from 1 to 16
 pub record HasWorkers (rows : List Row) (n : ℕ) : Type 0 where
@@ -74,6 +77,17 @@ pub record AreValues (rows : List Row) (v : Values) : Type 0 where
   pub limit : HasNumber rows (codes "limit") v.limit
   pub progress : IsTrue v.progress ↔ IsSet rows (codes "progress")
   pub stats : IsTrue v.stats ↔ IsSet rows (codes "stats")
+
+-- the options of a search have values that they may have
+pub record HaveValues (rows : List Row) (grid : ShapeModel) (workers limit : ℕ) (spread : SpreadKind) : Type 0 where
+  pub shape : HasShape rows grid
+  pub count : HasWorkers rows workers
+  pub word : first_of (codes "spread") rows ≡ Some (spread_text spread)
+  pub most : HasNumber rows (codes "limit") limit
+
+-- one of them has none
+abbrev pub LackValues : List Row → Type 0
+LackValues rows = (grid : ShapeModel) (workers limit : ℕ) (spread : SpreadKind) → ¬ HaveValues rows grid workers limit spread
 
 -- the goal that a text says, and where there is no text Korf's
 abbrev pub IsGoalSaid : ShapeModel → Option Text → BoardModel → Type 0
@@ -118,8 +132,8 @@ pub record AreOptions (rows : List Row) (o : Options) : Type 0 where
   pub progress : IsTrue o.progress ↔ IsSet rows (codes "progress")
   pub stats : IsTrue o.stats ↔ IsSet rows (codes "stats")
 
--- why they say nothing: the fault of the goal's text; or where that has none, the fault of the costs' text; or where that has none either, the
--- fault of the groups' text; and memory may be refused
+-- Why they say nothing: the fault of the goal's text; or where that has none, the fault of the costs' text; or where that has none either, the
+-- fault of the groups' text, or that memory is refused for them. Or an option lacks a value that it may have.
 abbrev pub OptionsFail : List Row → NoRequest → Type 0
 OptionsFail rows (Usage text) = ⊥
 OptionsFail rows (Goal fault) = (grid : ShapeModel) × HasShape rows grid × IsGoalFault grid (first_of (codes "goal") rows) fault
@@ -129,12 +143,17 @@ OptionsFail rows (Groups fault) =
     (grid : ShapeModel) × HasShape rows grid × (goal : BoardModel) × IsGoalSaid grid (first_of (codes "goal") rows) goal × (rule : WeightsModel)
     × AreCostsSaid grid (first_of (codes "cost") rows) rule × IsGroupsFault grid (first_of (codes "groups") rows) fault
 OptionsFail rows (NoListing fault) = ⊥
-OptionsFail rows Memory = ⊤
+OptionsFail rows (Memory error) = ⊥
+OptionsFail rows NoMatch = LackValues rows
 
--- how the values of the options of `show` say that a certificate is drawn
+-- how the values of the options of `show` say that a certificate is drawn: a width has 16 bits, and seconds have 8
 abbrev pub IsStyle : List Row → Style → Type 0
-IsStyle rows (style.Text width) = HasNumber rows (codes "width") width × (first_of (codes "svg") rows ≢ Some (codes "true"))
-IsStyle rows (style.Svg seconds) = HasNumber rows (codes "seconds") seconds × IsSet rows (codes "svg")
+IsStyle rows (style.Text width) = HasNumber rows (codes "width") width × (width < 65536) × (first_of (codes "svg") rows ≢ Some (codes "true"))
+IsStyle rows (style.Svg seconds) = HasNumber rows (codes "seconds") seconds × (seconds < 256) × IsSet rows (codes "svg")
+
+-- why they say no drawing: they have no such value
+abbrev pub StyleFails : List Row → NoRequest → Type 0
+StyleFails rows refusal = (refusal ≡ NoMatch) × ((look : Style) → ¬ IsStyle rows look)
 
 -- the option is left out
 abbrev pub IsLeftOut : List Row → Text → Type 0
@@ -162,14 +181,15 @@ abbrev pub IsListFault : List Row → ListFault → Type 0
 IsListFault rows NotAlone = IsSet rows (codes "all") × ((¬ IsLeftOut rows (codes "count")) ⊎ (¬ IsLeftOut rows (codes "moves")))
 IsListFault rows TooManyCells = IsChoice rows Whole × (grid : ShapeModel) × HasShape rows grid × (¬ MayBeListed grid Whole)
 
--- why they say nothing: that, or, where they say which boards, the fault of the goal's text; and memory may be refused
+-- why they say nothing: that, or, where they say which boards, the fault of the goal's text; or an option lacks a value that it may have
 abbrev pub ListingFails : List Row → NoRequest → Type 0
 ListingFails rows (Usage text) = ⊥
 ListingFails rows (Goal fault) = (grid : ShapeModel) × (choice : Choice) × HasShape rows grid × IsChoice rows choice × MayBeListed grid choice × IsGoalFault grid (first_of (codes "goal") rows) fault
 ListingFails rows (Costs fault) = ⊥
 ListingFails rows (Groups fault) = ⊥
 ListingFails rows (NoListing fault) = IsListFault rows fault
-ListingFails rows Memory = ⊤
+ListingFails rows (Memory error) = ⊥
+ListingFails rows NoMatch = (grid : ShapeModel) (choice : Choice) → HasShape rows grid → ¬ IsChoice rows choice
 
 -- ---- what arguments ask for
 
@@ -186,11 +206,17 @@ AsksRun (Some p) (Boards l) = (p.0 ≡ codes "boards") × SaysListing p.1 l
 AsksRun (Some p) (Help text) = ⊥
 AsksRun (Some p) (Version text) = ⊥
 
--- Why the values of a subcommand's options ask for no run. `check` and `upgrade`, which have no options, always ask for their own, and so does
--- `show` unless memory is refused. `boards` has options of its own.
+-- the name of none of the subcommands that have options
+abbrev pub IsOther : Text → Type 0
+IsOther name = (name ≢ codes "solve") × (name ≢ codes "replay") × (name ≢ codes "show") × (name ≢ codes "boards")
+
+-- Why the values of a subcommand's options ask for no run. `check` and `upgrade`, which have no options, always ask for their own. `show` and
+-- `boards` have options of their own.
 abbrev pub RunFails : Option (Text × List Row) → NoRequest → Type 0
-RunFails None refusal = refusal ≡ Memory
-RunFails (Some p) refusal = (p.0 ≢ codes "check") × (p.0 ≢ codes "upgrade") × (p.0 ≡ codes "show" → refusal ≡ Memory) × (p.0 ≡ codes "boards" → ListingFails p.1 refusal) × (p.0 ≢ codes "boards" → OptionsFail p.1 refusal)
+RunFails None refusal = refusal ≡ NoMatch
+RunFails (Some p) refusal =
+    (p.0 ≢ codes "check") × (p.0 ≢ codes "upgrade") × (p.0 ≡ codes "show" → StyleFails p.1 refusal) × (p.0 ≡ codes "boards" → ListingFails p.1 refusal)
+    × (p.0 ≡ codes "solve" → OptionsFail p.1 refusal) × (p.0 ≡ codes "replay" → OptionsFail p.1 refusal) × (IsOther p.0 → refusal ≡ NoMatch)
 
 -- a text that a parse with these faults asks for
 abbrev pub AsksText : Kinds → Request → Type 0
@@ -198,14 +224,15 @@ AsksText faults (Help text) = IsAmong DisplayHelp faults
 AsksText faults (Version text) = IsAmong DisplayVersion faults
 AsksText faults _ = ⊥
 
--- why a parse with these faults asks for nothing; and memory may be refused
+-- why a parse with these faults asks for nothing: one of them, or that the parser's error says that memory was refused
 abbrev pub TextFails : Kinds → NoRequest → Type 0
 TextFails faults (Usage text) = (kind : ErrorKind) × IsAmong kind faults × (kind ≢ DisplayHelp) × (kind ≢ DisplayVersion)
 TextFails faults (Goal fault) = ⊥
 TextFails faults (Costs fault) = ⊥
 TextFails faults (Groups fault) = ⊥
 TextFails faults (NoListing fault) = ⊥
-TextFails faults Memory = ⊤
+TextFails faults (Memory error) = kind_of error ≡ OutOfMemory
+TextFails faults NoMatch = ⊥
 
 -- Without arguments: boards of 3 by 3 at unit cost with Korf's goal and the default groups, whose tables are not folded, by one worker without a
 -- limit. Neither progress nor figures are printed.

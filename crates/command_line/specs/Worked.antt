@@ -1,11 +1,13 @@
 -- Worked rows: the faults that a parse of arguments by the program finds, and what arguments ask for. Each is the contract of a function that does nothing.
 use Rattle.std.specs.Prelude.{◌≡◌, ◌-◌, ◌^◌, [], ◌∷◌, codes}
-use Rattle.clap.specs.Words.{fault_of}
-use Rattle.clap.specs.declared.error.kind.ErrorKind.TheVariants.{ValueValidation, ArgumentConflict, UnknownArgument, DisplayHelp, DisplayVersion}
+use Rattle.clap.specs.Words.{fault_of, kind_of}
+use Rattle.clap.specs.declared.error.kind.ErrorKind.TheVariants.{ValueValidation, ArgumentConflict, UnknownArgument, DisplayHelp, DisplayVersion, OutOfMemory}
+use Rattle.clap.specs.declared.error.Error.{Error}
 use Rattle.command_line.specs.Commands.{Choices, program_app}
+use Rattle.option_texts.specs.Laws.{IsMemoryRefusal}
 use Rattle.command_line.specs.Requests.{WordsAsk, WordsFail}
 use Rattle.command_line.specs.declared.faults.NoRequest.{NoRequest}
-use Rattle.command_line.specs.declared.faults.NoRequest.TheVariants.{Memory}
+use Rattle.command_line.specs.declared.faults.NoRequest.TheVariants.{Groups, Memory}
 use Rattle.command_line.specs.declared.requests.Options.{Options}
 use Rattle.command_line.specs.declared.requests.Request.{Request}
 use Rattle.command_line.specs.declared.requests.Request.TheVariants.{Solve, Check, Draw, Upgrade, Replay}
@@ -59,6 +61,15 @@ pub record WordsAskOneThing : Type 0 where
   pub replay : (request : Request) → WordsAsk (codes "replay" ∷ codes "--rows" ∷ codes "3" ∷ codes "--cols" ∷ codes "4" ∷ []) request → (o : Options) × (request ≡ Replay o)
   pub solve : (request : Request) → WordsAsk (codes "solve" ∷ codes "--rows" ∷ codes "3" ∷ codes "--cols" ∷ codes "4" ∷ codes "--spread" ∷ codes "abstract" ∷ []) request → (o : Options) × (request ≡ Solve o) × IsPlainSearch o
 
--- `check` is refused only where memory is
+-- memory was refused, to the parser of the arguments, as its error says, or for the groups
+abbrev pub IsOutOfMemory : NoRequest → Type 0
+IsOutOfMemory (Memory error) = kind_of error ≡ OutOfMemory
+IsOutOfMemory (Groups fault) = IsMemoryRefusal fault
+IsOutOfMemory _ = ⊥
+
+-- `check` and, with these options, `show` are refused only where the parser's error says that memory is. `solve` with these options may lack it
+-- for its groups too.
 pub record WordsAreNotRefused : Type 0 where
-  pub check : (refusal : NoRequest) → WordsFail (codes "check" ∷ []) refusal → refusal ≡ Memory
+  pub check : (refusal : NoRequest) → WordsFail (codes "check" ∷ []) refusal → (error : Error) × (refusal ≡ Memory error) × (kind_of error ≡ OutOfMemory)
+  pub show : (refusal : NoRequest) → WordsFail (codes "show" ∷ codes "--svg" ∷ codes "--seconds" ∷ codes "2" ∷ []) refusal → (error : Error) × (refusal ≡ Memory error) × (kind_of error ≡ OutOfMemory)
+  pub solve : (refusal : NoRequest) → WordsFail (codes "solve" ∷ codes "--rows" ∷ codes "3" ∷ codes "--cols" ∷ codes "4" ∷ codes "--spread" ∷ codes "abstract" ∷ []) refusal → IsOutOfMemory refusal

@@ -7,6 +7,7 @@ ghost use Rattle.pattern_index.specs.Faults.{group_code, partition_code};
 ghost use Rattle.command_line.specs.Faults.{refusal_status, refusal_message, coded_line, list_line};
 
 use board::{TilesFault, WeightsFault};
+use clap::Error;
 use option_texts::GroupsFault;
 use pattern_index::{GroupFault, PartitionFault};
 
@@ -32,8 +33,11 @@ pub enum NoRequest {
     Groups(GroupsFault),
     /// The boards that are asked for can't be listed.
     NoListing(ListFault),
-    /// There is no memory for the parser of the arguments.
-    Memory,
+    /// There is no memory for the parser of the arguments, as its error says.
+    Memory(Error),
+    /// The parser's matches lack a subcommand, or a value that an option may have. No parse by the
+    /// program gives such matches.
+    NoMatch,
 }
 
 impl NoRequest {
@@ -46,7 +50,8 @@ impl NoRequest {
             NoRequest::Usage(_) | NoRequest::Goal(_) | NoRequest::Costs(_) => 2,
             NoRequest::Groups(GroupsFault::Memory(_)) => 4,
             NoRequest::Groups(_) | NoRequest::NoListing(_) => 2,
-            NoRequest::Memory => 4,
+            NoRequest::Memory(_) => 4,
+            NoRequest::NoMatch => 4,
         }
     }
 
@@ -60,7 +65,7 @@ impl NoRequest {
             NoRequest::Costs(fault) => costs_line(*fault),
             NoRequest::Groups(fault) => groups_line(*fault),
             NoRequest::NoListing(fault) => boards_line(*fault),
-            NoRequest::Memory => "tilesolve: memory\n",
+            NoRequest::Memory(_) | NoRequest::NoMatch => "tilesolve: memory\n",
         }
     }
 }

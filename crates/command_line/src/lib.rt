@@ -5,6 +5,8 @@
 //!   `commands` builds the clap program, one function an option (`Rule`); `help` has the texts.
 //! - No arguments bypass clap (`default_options`), so only a refused allocation refuses them.
 //! - clap judges first; then goal, costs and groups are read, in the order of `options_in`.
+//! - `NoRequest::Memory` has clap's error, whose kind says that memory was refused. Anyone can make
+//!   such an error: clap has no refusal that `memory` could pass on.
 //! - Start with `specs/Commands.antt`, `specs/Requests.antt`, then `src/requests.rt`.
 #![tactic(auto)]
 

@@ -1,6 +1,7 @@
 //! Which boards the options of `boards` ask for.
 
-ghost use Rattle.std.specs.Prelude.{◌≡◌, ◌↔◌, IsTrue, IfOk, IfErr, IfSome, codes};
+ghost use Rattle.std.specs.Prelude.{ℕ, ◌≡◌, ◌↔◌, IsTrue, IfOk, IfErr, IfSome, IfNone, codes};
+ghost use Rattle.board_lists.specs.declared.choices.Choice.{Choice};
 ghost use Rattle.board.specs.Shapes.{ShapeModel};
 ghost use Rattle.clap.specs.Words.{found_of, rows_of};
 ghost use Rattle.board_lists.specs.Lists.{MayBeListed};
@@ -24,7 +25,7 @@ pub(crate) fn listing_in(matches: &ArgMatches<'_>) -> Result<Listing, NoRequest>
     ensures refusal { IfErr result (ListingFails (rows_of (found_of matches.now))) }
 {
     let Some(shape) = shape_in(matches) else {
-        return Err(NoRequest::Memory);
+        return Err(NoRequest::NoMatch);
     };
     let choice = match choice_in(matches, shape) {
         Ok(choice) => choice,
@@ -48,7 +49,7 @@ fn choice_in(matches: &ArgMatches<'_>, shape: Shape) -> Result<Choice, NoRequest
     }
     match draws_in(matches) {
         Some(choice) => Ok(choice),
-        None => Err(NoRequest::Memory),
+        None => Err(NoRequest::NoMatch),
     }
 }
 
@@ -72,11 +73,13 @@ fn whole_in(matches: &ArgMatches<'_>, shape: Shape) -> Result<Choice, NoRequest>
     Ok(Choice::Whole)
 }
 
-// Boards drawn or walked to. Nothing is said only where a value isn't what the parser takes as one.
+// Boards drawn or walked to. Nothing is answered only where the options say no such boards.
 fn draws_in(matches: &ArgMatches<'_>) -> Option<Choice>
     requires { ¬ IsSet (rows_of (found_of matches.now)) (codes "all") }
     ensures choice { IfSome result (IsChoice (rows_of (found_of matches.now))) }
     ensures small { (shape : ShapeModel) → IfSome result (MayBeListed shape) }
+    ensures none { IfNone result ((choice : Choice)
+        → ¬ IsChoice (rows_of (found_of matches.now)) choice) }
 {
     let count = count_in(matches)?;
     let seed = number_in(matches, "seed")?;
@@ -88,8 +91,10 @@ fn draws_in(matches: &ArgMatches<'_>) -> Option<Choice>
 }
 
 // How many boards are said.
+#[tactic(auto, using(crate::proofs::ParseLemmas::no_count))]
 fn count_in(matches: &ArgMatches<'_>) -> Option<u64>
-    ensures { IfSome result (HasCount (rows_of (found_of matches.now))) }
+    ensures value { IfSome result (HasCount (rows_of (found_of matches.now))) }
+    ensures none { IfNone result ((n : ℕ) → ¬ HasCount (rows_of (found_of matches.now)) n) }
 {
     if is_left_out(matches, "count") {
         return Some(COUNT);

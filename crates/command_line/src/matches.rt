@@ -3,10 +3,9 @@
 ghost use Rattle.std.specs.Prelude.{◌≡◌, ◌↔◌, IsTrue, IfOk, IfErr, IfSome, Some, codes, option_map};
 ghost use Rattle.clap.specs.Words.{first_of, found_of, rows_of, subcommand_rows_of};
 ghost use Rattle.command_line.specs.Requests.{AsksRun, RunFails, AreOptions, OptionsFail};
-ghost use Rattle.command_line.specs.Requests.{ListingFails};
+ghost use Rattle.command_line.specs.Requests.{ListingFails, StyleFails};
 ghost use Rattle.command_line.specs.Requests.{IsGoalSaid, IsGoalFault, AreCostsSaid, IsCostsFault};
 ghost use Rattle.command_line.specs.Requests.{AreGroupsSaid, IsGroupsFault};
-ghost use Rattle.command_line.specs.declared.faults.NoRequest.TheVariants.{Memory};
 
 use crate::faults::NoRequest;
 use crate::listings::listing_in;
@@ -44,18 +43,18 @@ pub(crate) fn run_in(alloc: Global, matches: &ArgMatches<'_>) -> Result<Request,
     if matches.subcommand_matches("upgrade").is_some() {
         return Ok(Request::Upgrade);
     }
-    Err(NoRequest::Memory)
+    Err(NoRequest::NoMatch)
 }
 
 // What the options of `show` ask for.
 fn drawing_in(matches: &ArgMatches<'_>) -> Result<Request, NoRequest>
     ensures request { IfOk result
         (λ r. AsksRun (Some (codes "show", rows_of (found_of matches.now))) r) }
-    ensures refusal { IfErr result (λ refusal. refusal ≡ Memory) }
+    ensures refusal { IfErr result (StyleFails (rows_of (found_of matches.now))) }
 {
     match style_in(matches) {
         Some(style) => Ok(Request::Draw(style)),
-        None => Err(NoRequest::Memory),
+        None => Err(NoRequest::NoMatch),
     }
 }
 
@@ -94,7 +93,7 @@ fn options_in(alloc: Global, matches: &ArgMatches<'_>) -> Result<Options, NoRequ
     ensures refusal { IfErr result (OptionsFail (rows_of (found_of matches.now))) }
 {
     let Some(values) = values_in(matches) else {
-        return Err(NoRequest::Memory);
+        return Err(NoRequest::NoMatch);
     };
     let goal = match goal_said(values.shape, values.goal) {
         Ok(goal) => goal,

@@ -91,7 +91,7 @@ pub fn read_words(alloc: Global, words: &[String]) -> Result<Request, NoRequest>
     }
     let matches = match matches_of(alloc, words) {
         Ok(matches) => matches,
-        Err(error) => return unmatched(alloc, &error),
+        Err(error) => return unmatched(alloc, error),
     };
     run_in(alloc, &matches)
 }
@@ -128,18 +128,19 @@ fn matches_of<'a>(alloc: Global, words: &'a [String]) -> Result<ArgMatches<'a>, 
 }
 
 // What is asked for where the parser gives no matches: a text, or nothing.
-fn unmatched(alloc: Global, error: &Error) -> Result<Request, NoRequest>
-    ensures request { (faults : Kinds) → HasKind faults error.now → IfOk result (AsksText faults) }
-    ensures refusal { (faults : Kinds) → HasKind faults error.now
+fn unmatched(alloc: Global, error: Error) -> Result<Request, NoRequest>
+    ensures request { (faults : Kinds) → HasKind faults error → IfOk result (AsksText faults) }
+    ensures refusal { (faults : Kinds) → HasKind faults error
         → IfErr result (TextFails faults) }
 {
-    let Ok(text) = error.to_string(alloc) else {
-        return Err(NoRequest::Memory);
+    let text = match error.to_string(alloc) {
+        Ok(text) => text,
+        Err(refused) => return Err(NoRequest::Memory(Error::from(refused))),
     };
     match error.kind() {
         ErrorKind::DisplayHelp => Ok(Request::Help(text)),
         ErrorKind::DisplayVersion => Ok(Request::Version(text)),
-        ErrorKind::OutOfMemory => Err(NoRequest::Memory),
+        ErrorKind::OutOfMemory => Err(NoRequest::Memory(error)),
         _ => Err(NoRequest::Usage(text)),
     }
 }
