@@ -67,7 +67,10 @@ fn answer_to(
 fn unescape(alloc: Global, text: &str) -> io::Result<Option<Vec<u8>>> {
     let mut bytes = Vec::new(alloc);
     let mut rest = text.as_bytes();
-    'bytes: while !rest.is_empty() {
+    for _ in 0..text.len() {
+        if rest.is_empty() {
+            break;
+        }
         let Some((byte, behind)) = first_byte(rest) else {
             return Ok(None);
         };

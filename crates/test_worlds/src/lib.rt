@@ -1,7 +1,7 @@
 //! What programs that try workers share:
 //!
 //! - steps of one of two workers, where a step whose requirements are not met is left out;
-//! - tables for groups of tiles;
+//! - groups of tiles, and their tables;
 //! - gates that count expansions or bounds that are shown, or slow a worker down;
 //! - what workers in threads answer.
 //!
@@ -9,18 +9,16 @@
 //! certificate.
 #![tactic(auto)]
 
-mod far_board;
 mod gates;
 mod problems;
-mod rows;
 mod solving;
 mod steps;
 mod tables;
 
-pub use far_board::{FAR_GROUPS, FAR_START, far_problem};
 pub use gates::{Counter, Delay, Shown};
-pub use problems::{Answer, Division, Job, Problem, Team};
-pub use rows::ByRow;
+pub use problems::{
+    Answer, ByRow, Division, FAR_GROUPS, FAR_START, Job, Problem, Team, far_problem,
+};
 pub use solving::{answer_of_threads, answer_with_rows, answer_without_rows};
 pub use steps::{expand, hire, meet, settle};
-pub use tables::bound_of;
+pub use tables::{bound_of, groups_of};

@@ -1,8 +1,12 @@
-//! What is asked of workers, and what they answer.
+//! What is asked of workers, how boards are divided among them, and what they answer.
 
-use board::{Board, Weights};
+ghost use Rattle.std.specs.Prelude.{◌≡◌, IfSome};
+
+use board::{Board, Shape, Weights};
 use lower_bound::Bound;
 use outcomes::Cause;
+use owners::Spread;
+use search_keys::KeyedBoard;
 
 /// A board, the goal, what moves cost, and how many boards may be expanded.
 #[derive(Clone, Copy)]
@@ -11,6 +15,25 @@ pub struct Problem {
     pub goal: Board,
     pub weights: Weights,
     pub limit: u64,
+}
+
+/// A board of 3 by 3 that is as far from Korf's goal as one can be: 31 moves.
+pub const FAR_START: [u8; 9] = [8, 0, 6, 5, 4, 7, 2, 3, 1];
+
+/// The groups whose tables guide some of the runs.
+pub const FAR_GROUPS: [&[u8]; 2] = [&[1, 2, 3, 4], &[5, 6, 7, 8]];
+
+/// The problem from the board to Korf's goal at unit cost, with at most this many expansions.
+pub fn far_problem(limit: u64) -> Option<Problem>
+    ensures { IfSome result (λ problem. problem.weights.grid ≡ problem.goal.grid) }
+{
+    let shape = Shape::new(3, 3).ok()?;
+    Some(Problem {
+        start: Board::from_tiles(shape, &FAR_START).ok()?,
+        goal: Board::goal(shape),
+        weights: Weights::unit(shape),
+        limit,
+    })
 }
 
 /// What a worker is lent of its task: a goal, the weights, and the bound that guides the search.
@@ -81,4 +104,27 @@ pub enum Answer {
     NoMemory,
     /// The parts of the problem are not of one shape, or the workers are not from 1 to 16.
     Invalid,
+}
+
+/// Owners that no hash modulo the number of workers gives. The worker in the middle owns the boards
+/// whose blank is in the last row. Worker 0 owns all others.
+#[derive(Clone, Copy, Debug)]
+pub struct ByRow;
+
+impl Spread for ByRow {
+    ghost use Rattle.test_worlds.specs.Rows.{owner_by_row, owner_by_row-lt};
+
+    ghost owner_of = { λ s. owner_by_row };
+
+    ghost owners_are_workers = { λ s. owner_by_row-lt };
+
+    fn owner(&self, board: &Board, workers: usize) -> usize {
+        let shape = board.shape();
+        let is_above = board.blank() + (shape.cols() as usize) < shape.cells();
+        if is_above { 0 } else { workers / 2 }
+    }
+
+    fn hash(&self, _board: &KeyedBoard) -> Option<u64> {
+        None
+    }
 }

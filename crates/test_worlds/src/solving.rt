@@ -3,8 +3,7 @@
 ghost use Rattle.lower_bound.specs.Tables.{ArePotentials};
 ghost use Rattle.hda_run.specs.Worlds.{IsWorkerCount};
 
-use crate::problems::{Answer, Division, Problem, Team};
-use crate::rows::ByRow;
+use crate::problems::{Answer, ByRow, Division, Problem, Team};
 use board::Board;
 use certificate::{Certificate, Claim, Parts, Version};
 use certificate_check::check;

@@ -31,8 +31,8 @@ pub fn bound_of(alloc: Global, goal: &Board, weights: &Weights, lists: &[&[u8]])
     Some(bound)
 }
 
-// Groups of these tiles.
-fn groups_of(alloc: Global, shape: Shape, lists: &[&[u8]]) -> Option<Vec<Group>>
+/// Groups of these tiles. None where one of them is no group, or memory is refused.
+pub fn groups_of(alloc: Global, shape: Shape, lists: &[&[u8]]) -> Option<Vec<Group>>
     ensures { IfSome result (λ groups. All (λ g. g.grid ≡ shape) groups.items) }
 {
     let mut groups = Vec::new(alloc);

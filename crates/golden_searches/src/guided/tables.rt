@@ -1,14 +1,15 @@
 //! Partitions of tiles, and the tables of their groups.
 
-ghost use Rattle.std.specs.Prelude.{◌≡◌, All, IfSome};
+ghost use Rattle.std.specs.Prelude.{◌≡◌, IfSome};
 ghost use Rattle.batch_runs.specs.Setups.{Guides};
 
 use board::{Board, Shape, Weights};
 use lower_bound::Bound;
-use pattern_index::{Group, Partition};
+use pattern_index::Partition;
 use std::alloc::Global;
 use std::thread::Threads;
 use table_sets::{build_bound, build_folded_bound};
+use test_worlds::groups_of;
 
 // The most groups of a partition.
 const MOST_GROUPS: u64 = 3;
@@ -85,21 +86,4 @@ pub fn guide_of<R: Threads + Sync>(
         return build_folded_bound(rt, alloc, partition, goal, weights).ok();
     }
     build_bound(rt, alloc, partition, goal, weights).ok()
-}
-
-// Groups of these tiles.
-fn groups_of(alloc: Global, shape: Shape, lists: &[&[u8]]) -> Option<Vec<Group>>
-    ensures { IfSome result (λ groups. All (λ g. g.grid ≡ shape) groups.items) }
-{
-    let mut groups = Vec::new(alloc);
-    'groups: for tiles in lists {
-        groups.push(group_of(shape, tiles)?).ok()?;
-    }
-    Some(groups)
-}
-
-fn group_of(shape: Shape, tiles: &[u8]) -> Option<Group>
-    ensures { IfSome result (λ g. g.grid ≡ shape) }
-{
-    Group::new(shape, tiles).ok()
 }

@@ -114,7 +114,10 @@ fn print_lines(rt: &impl Print, mark: &str, bytes: &[u8]) -> io::Result<()> {
 fn line_of(alloc: Global, text: &str) -> io::Result<Option<Vec<u8>>> {
     let mut bytes = Vec::new(alloc);
     let mut rest = text.as_bytes();
-    'bytes: while !rest.is_empty() {
+    for _ in 0..text.len() {
+        if rest.is_empty() {
+            break;
+        }
         if let [b'\\'] = rest {
             return Ok(Some(bytes));
         }

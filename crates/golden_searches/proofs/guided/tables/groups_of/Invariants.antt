@@ -1,6 +1,0 @@
-use Rattle.std.proofs.Common.{◌≡◌}
-use Rattle.std.specs.Prelude.{All}
-use Rattle.golden_searches.proofs.guided.tables.groups_of.Given as goal
-
-abbrev pub invariant-groups : goal.invariant-groups
-invariant-groups l = All (λ g. g.grid ≡ l.shape) l.groups.items
