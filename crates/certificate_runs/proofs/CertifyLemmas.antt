@@ -28,7 +28,7 @@ use Rattle.lower_bound.specs.Folded.{AreFoldsOf, IsFoldedPotential, folded_parts
 use Rattle.lower_bound.specs.Tables.{BoundModel, IsTables, AreTablesOf, ArePotentials, AreWhole, part_of, parts_of}
 use Rattle.lower_bound.proofs.PartLemmas.{each_lookup, table_grids, whole_each, whole_parts, all_folded_parts}
 use Rattle.byte_streams.specs.Streams.{SourceState, SinkState, Change}
-use Rattle.batch_lines.specs.Lines.{without_return}
+use Rattle.batch_lines.specs.Lines.{without_return, line_kind_of}
 use Rattle.batch_lines.specs.Readings.{IsJudged, LineReaderModel}
 use Rattle.batch_lines.specs.Words.{IsEntry, IsFirstEntryFault, entry_code}
 use Rattle.batch_lines.specs.declared.words.EntryFault.{EntryFault}
@@ -61,7 +61,7 @@ use Rattle.certificate_runs.specs.declared.faults.CertifyFault.TheVariants.{Read
 use Rattle.certificate_runs.specs.declared.certifying.Reply.{Reply}
 use Rattle.certificate_runs.specs.declared.certifying.Reply.TheVariants.{Certified, Reported}
 use Rattle.certificate_runs.specs.Outputs.{Output}
-use Rattle.certificate_runs.specs.Certifying.{IsAnswerOf, IsCertificateOf, IsCertificateFor, IsUncertified, NamesCertifiable, HasNoReply, ReportsLine, IsCertifyReply, IsRefusalReply, HasFirst, PutsReply, EndsReplying, first_line, report_of, reply_output}
+use Rattle.certificate_runs.specs.Certifying.{IsAnswerOf, IsCertificateOf, IsCertificateFor, IsUncertified, NamesCertifiable, IsReportDue, HasNoReply, ReportsLine, IsCertifyReply, IsRefusalReply, HasFirst, PutsReply, EndsReplying, first_line, report_of, reply_output}
 use Rattle.certificate_runs.specs.declared.faults.CheckFault.{CheckFault}
 use Rattle.certificate_runs.specs.Checking.{IsVerdictOutput, PutsVerdict, EndsCheck, Checks}
 use Rattle.certificate_runs.specs.Headline.AnswersFirst.{by_none, by_certificate, by_report}
@@ -282,18 +282,31 @@ replied split rules source sink line reader (Reported text told) (Err fault) (re
     let reported = reply_is split rules source (first_of source passed bytes finds) line reader.kept (Reported text told) judged at reply in
     subst (λ (f : CertifyFault). EndsReplying split rules source sink (Err f)) (sym put.1) (readable, (reply_output (Reported text told), (first_of source passed bytes finds, reported), put.0))
 
+-- a report that is due by the bytes that were kept is due for the line
+due_is : (rules : ProofRules) (line : List ℕ) (kind : LineKind) (kept : List ℕ) → IsJudged line kind kept → IsReportDue rules kind kept → IsReportDue rules (line_kind_of line) (without_return line)
+due_is rules line PassedOver kept judged due = absurd due
+due_is rules line TooLong kept judged due = subst (λ (kind : LineKind). IsReportDue rules kind (without_return line)) judged.judged tt
+due_is rules line Within kept judged due = subst (λ (kind : LineKind). IsReportDue rules kind (without_return line)) judged.judged (subst (λ (bytes : List ℕ). IsReportDue rules Within bytes) (judged.whole refl) due)
+
+-- a report is due for a line that can't be read
+pub due_long : (rules : ProofRules) (kind : LineKind) (bytes : List ℕ) → kind ≢ PassedOver → kind ≢ Within → IsReportDue rules kind bytes
+due_long rules PassedOver bytes here long = absurd (here refl)
+due_long rules TooLong bytes here long = tt
+due_long rules Within bytes here long = absurd (long refl)
+
 -- there is no reply to the line that was found
 pub unreplied : (split : PartitionModel) (rules : ProofRules) (source : Change SourceState) (sink : Change SinkState) (line : Line) (reader : LineReaderModel) (fault : CertifyFault) → FindsLine source reader (Ok (Some line)) → HasNoReply rules line reader.kept fault → sink.after ≡ sink.before → EndsReplying split rules source sink (Err fault)
 unreplied split rules source sink line reader Read (readable, (passed, bytes, finds, has, judged, at)) lack same = absurd lack
 unreplied split rules source sink line reader Write (readable, (passed, bytes, finds, has, judged, at)) lack same = absurd lack
-unreplied split rules source sink line reader (Memory lacking) (readable, (passed, bytes, finds, has, judged, at)) lack same = (readable, (first_of source passed bytes finds, tt), same)
+unreplied split rules source sink line reader (Memory lacking) (readable, (passed, bytes, finds, has, judged, at)) lack same =
+    (readable, (first_of source passed bytes finds, due_is rules bytes line.kind reader.kept judged lack), same)
 unreplied split rules source sink line reader (GroupsMemory wanting) (readable, (passed, bytes, finds, has, judged, at)) (within, named) same =
     (readable, (first_of source passed bytes finds, (sym judged.judged ∙ within, subst (NamesCertifiable rules) (judged.whole within) named)), same)
 unreplied split rules source sink line reader CertificateWrite (readable, (passed, bytes, finds, has, judged, at)) lack same = absurd lack
 
--- a fault of a report is one for which there is no reply
-pub report_lacks : (rules : ProofRules) (line : Line) (bytes : List ℕ) (fault : CertifyFault) → (lacking : NoReport) × (fault ≡ Memory lacking) → HasNoReply rules line bytes fault
-report_lacks rules line bytes fault (lacking, is) = subst (HasNoReply rules line bytes) (sym is) tt
+-- a fault of a report that is due is one for which there is no reply
+pub report_lacks : (rules : ProofRules) (line : Line) (bytes : List ℕ) (fault : CertifyFault) → IsReportDue rules line.kind bytes → (lacking : NoReport) × (fault ≡ Memory lacking) → HasNoReply rules line bytes fault
+report_lacks rules line bytes fault due (lacking, is) = subst (HasNoReply rules line bytes) (sym is) due
 
 -- what a certificate of the setup's goal states
 abbrev pub stated : SetupModel → BoardModel → ℕ → Option (List Move) → List (BoardModel × ℕ) → CertificateModel

@@ -128,11 +128,11 @@ asks_so line here = by_case (is_passed_over (without_return line)) refl
     by_case false e = ap not e
 
 -- lines that are passed over ask nothing
-none_ask : (n : ℕ) (lines : List (List ℕ)) → AllByRecursion IsPassedOver lines → questions n lines ≡ []
+pub none_ask : (n : ℕ) (lines : List (List ℕ)) → AllByRecursion IsPassedOver lines → questions n lines ≡ []
 none_ask n [] over = refl
 none_ask n (line ∷ lines) over = rw (asks_not line over.0) (none_ask (n + 1) lines over.1)
 
-one_asks : (n : ℕ) (passed : List (List ℕ)) (line : List ℕ) → AllByRecursion IsPassedOver passed → ¬ IsPassedOver line → questions n (passed ++ line ∷ []) ≡ (n + length passed, line) ∷ []
+pub one_asks : (n : ℕ) (passed : List (List ℕ)) (line : List ℕ) → AllByRecursion IsPassedOver passed → ¬ IsPassedOver line → questions n (passed ++ line ∷ []) ≡ (n + length passed, line) ∷ []
 one_asks n [] line over here =
     let at : n ≡ n + 0 = omega arith in
     rw (asks_so line here) (ap (λ (k : ℕ). (k, line) ∷ []) at)
@@ -161,7 +161,7 @@ module _ (rules : Rules) where
       (subst (λ (kind : LineKind). AnswersKind rules kind (without_return other) passed_over) (sym over.0) refl, last_answers passed line answer over.1 is)
 
   -- a report of the last line alone tells the truth
-  last_true : IsTruthful rules → (passed : List (List ℕ)) (line : List ℕ) (answer : Answer) → length passed + 1 < 2 ^ 64 → AllByRecursion IsPassedOver passed → AnswersLine rules line answer → TellsTheTruth rules (passed ++ line ∷ []) (answer_text (length passed + 1) answer)
+  pub last_true : IsTruthful rules → (passed : List (List ℕ)) (line : List ℕ) (answer : Answer) → length passed + 1 < 2 ^ 64 → AllByRecursion IsPassedOver passed → AnswersLine rules line answer → TellsTheTruth rules (passed ++ line ∷ []) (answer_text (length passed + 1) answer)
   last_true truthful passed line answer few over is =
       let longer = length-append passed (line ∷ []) in
       let at : 1 + length passed ≡ length passed + 1 = omega arith in
@@ -179,7 +179,7 @@ claims_truly : (task : Task) (cost : ℕ) (plan : Option (List Move)) → IfSome
 claims_truly task cost (Some plan) leads below = (leads, record { reached = (plan, leads); none_below = below })
 claims_truly task cost None leads below = below
 
-certifies_truly : (split : PartitionModel) (task : Task) (c : CertificateModel) → IsCertificateOf split task c → CertifiesTruly split task c (spelling c)
+pub certifies_truly : (split : PartitionModel) (task : Task) (c : CertificateModel) → IsCertificateOf split task c → CertifiesTruly split task c (spelling c)
 certifies_truly split task c of = record {
   read = spelled_read (spelling c) c (of.certificate, refl);
   version = of.version;
@@ -196,7 +196,7 @@ certifies_truly split task c of = record {
 -- ---- a line in, a certificate out
 
 -- what may be reported is true
-reports_truthful : (rules : ProofRules) → ProvesTruly rules → IsTruthful (report_rules rules)
+pub reports_truthful : (rules : ProofRules) → ProvesTruly rules → IsTruthful (report_rules rules)
 reports_truthful rules truthful b ending (given, allowed, says, none) = subst (EndAnswers (rules.task b)) says (ends_answered (rules.task b) given (truthful b given allowed))
 
 first_all : (input : Option (List ℕ)) (lines : List (List ℕ)) → AreAll input lines → AreFirst input lines
@@ -228,7 +228,7 @@ abbrev line_or : Option (List ℕ) → List ℕ
 line_or None = []
 line_or (Some line) = line
 
-feed_ends : (line : List ℕ) → AllByRecursion (λ b. b ≢ 10) line → lines_of (line ++ 10 ∷ []) ≡ line ∷ []
+pub feed_ends : (line : List ℕ) → AllByRecursion (λ b. b ≢ 10) line → lines_of (line ++ 10 ∷ []) ≡ line ∷ []
 feed_ends [] none = refl
 feed_ends (b ∷ bs) none = rw (ne_eqb b 10 none.0) (ap (onto_first b) (feed_ends bs none.1))
 
@@ -333,7 +333,7 @@ said_of : (c : CertificateModel) (plan : Option (List Move)) → IfSome plan (λ
 said_of c (Some plan) leads below least = (refl, leads, least refl)
 said_of c None leads below least = (refl, below)
 
-accepted_status : (plan : Option (List Move)) (cost : ℕ) → HasStatus (claim_data plan cost) (codes "accepted")
+pub accepted_status : (plan : Option (List Move)) (cost : ℕ) → HasStatus (claim_data plan cost) (codes "accepted")
 accepted_status (Some plan) cost = refl
 accepted_status None bound = refl
 
@@ -355,11 +355,11 @@ refused_true input code by = record {
   refused = λ e. (code, refl, by);
 }
 
-claim_is_report : (plan : Option (List Move)) (cost : ℕ) → IsSmall cost → IsReport (claim_data plan cost)
+pub claim_is_report : (plan : Option (List Move)) (cost : ℕ) → IsSmall cost → IsReport (claim_data plan cost)
 claim_is_report (Some plan) cost small = of_cost cost small
 claim_is_report None bound small = of_bound bound small
 
-greatest_small : (plan : Option (List Move)) (cost : ℕ) → cost ≤ greatest plan → IsSmall cost
+pub greatest_small : (plan : Option (List Move)) (cost : ℕ) → cost ≤ greatest plan → IsSmall cost
 greatest_small (Some plan) cost low = omega (arith, low)
 greatest_small None bound low = omega (arith, low)
 
@@ -382,7 +382,7 @@ module _ (sink : Change SinkState) (input : List ℕ) (output : Output) (put : P
   judged c spells (tables, built, inr (refusal, first, refused)) =
       refused_written sink input (refusal_code refusal) (put_text (report_text (refused_certificate_data (refusal_code refusal))) 5 refused) (inr (c, tables, refusal, spelled_read input c spells, built, first, refl))
 
-  verdict_written : (read : Result CertificateModel ReadFault) → TellsOfInput read input → IsVerdictOutput read output → WritesVerdict sink input
+  pub verdict_written : (read : Result CertificateModel ReadFault) → TellsOfInput read input → IsVerdictOutput read output → WritesVerdict sink input
   verdict_written (Ok c) tells verdict = judged c tells verdict
   verdict_written (Err (Format fault)) tells verdict = refused_written sink input (format_code fault) (put_text (report_text (refused_certificate_data (format_code fault))) 5 verdict) (inl (fault, tells, refl))
   verdict_written (Err Failed) tells verdict = absurd verdict
@@ -588,11 +588,11 @@ abbrev found : CertificateModel → Reading CertificateModel
 found c = Ok (c, [])
 
 -- bytes that are a certificate have no fault
-no_fault : (input : List ℕ) (c : CertificateModel) (fault : FormatFault) → certificate input ≡ found c → IsFirstFormatFault input fault → ⊥
+pub no_fault : (input : List ℕ) (c : CertificateModel) (fault : FormatFault) → certificate input ≡ found c → IsFirstFormatFault input fault → ⊥
 no_fault input c fault read first = let both = sym read ∙ first.1 in absurd (cc)
 
 -- and are no other certificate
-one_certificate : (input : List ℕ) (c d : CertificateModel) → certificate input ≡ found c → certificate input ≡ found d → d ≡ c
+pub one_certificate : (input : List ℕ) (c d : CertificateModel) → certificate input ≡ found c → certificate input ≡ found d → d ≡ c
 one_certificate input c d read other = ap (read_or c) (sym other ∙ read)
   where
     read_or : CertificateModel → Reading CertificateModel → CertificateModel

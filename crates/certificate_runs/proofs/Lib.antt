@@ -1,3 +1,3 @@
 pub mod CertifyLemmas
 pub mod HeadlineLemmas
-pub mod ShowLemmas
+pub mod EndLemmas

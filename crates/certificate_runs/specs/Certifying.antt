@@ -7,9 +7,11 @@ use Rattle.board.specs.Boards.{BoardModel}
 use Rattle.board.specs.declared.costs.TheConstants.{GREATEST_COST}
 use Rattle.board.specs.Plans.{Leads, NothingBelow}
 use Rattle.batch_lines.specs.Lines.{without_return, line_kind_of}
-use Rattle.batch_lines.specs.Words.{IsEntry}
+use Rattle.batch_lines.specs.Words.{IsEntry, IsFirstEntryFault}
+use Rattle.batch_lines.specs.declared.words.EntryFault.{EntryFault}
+use Rattle.batch_lines.specs.declared.lines.LineKind.{LineKind}
 use Rattle.batch_lines.specs.declared.lines.Line.{Line}
-use Rattle.batch_lines.specs.declared.lines.LineKind.TheVariants.{Within}
+use Rattle.batch_lines.specs.declared.lines.LineKind.TheVariants.{PassedOver, TooLong, Within}
 use Rattle.certificate.specs.declared.certificate.Version.TheVariants.{Two}
 use Rattle.certificate.specs.Certificates.{CertificateModel, IsCertificate}
 use Rattle.certificate.specs.Spellings.{spelling}
@@ -26,7 +28,7 @@ use Rattle.batch_runs.specs.FirstLines.{FindsFirst, PassesAll, LosesFirst}
 use Rattle.batch_runs.specs.Setups.{SetupModel, task_of_setup}
 use Rattle.lower_bound.specs.Tables.{BoundModel}
 use Rattle.certificate_runs.specs.Outputs.{Output, IsUntouched}
-use Rattle.certificate_runs.specs.Rules.{ProofRules, ProvesTruly, rows_of, report_rules}
+use Rattle.certificate_runs.specs.Rules.{ProofRules, ProvesTruly, MayReport, rows_of, report_rules}
 use Rattle.certificate_runs.specs.Built.{AreBuiltFor}
 use Rattle.certificate_runs.specs.declared.certifying.Made.{Made}
 use Rattle.certificate_runs.specs.declared.certifying.Made.TheVariants.{Certificate, Plain}
@@ -130,11 +132,18 @@ abbrev pub IsCertifyReply : PartitionModel → ProofRules → Line → List ℕ 
 IsCertifyReply split rules line bytes (Certified c) = (line.kind ≡ Within) × IsCertificateFor split rules bytes c
 IsCertifyReply split rules line bytes (Reported text status) = ReportsLine rules line bytes (record { text = string_bytes text; status = status })
 
--- why there is none: memory was refused for a report, or for the groups of a certificate
+-- a report is due for a line of this kind with these bytes: it can't be read, or it has a fault, or its board may be answered without rows
+abbrev pub IsReportDue : ProofRules → LineKind → List ℕ → Type 0
+IsReportDue rules PassedOver bytes = ⊥
+IsReportDue rules TooLong bytes = ⊤
+IsReportDue rules Within bytes =
+    ((fault : EntryFault) × IsFirstEntryFault rules.grid bytes fault) ⊎ ((id : List ℕ) × (b : BoardModel) × (ending : Option Ending) × IsEntry rules.grid bytes id b × MayReport rules b ending)
+
+-- why there is none: memory was refused for the report that is due, or for the groups of a certificate
 abbrev pub HasNoReply : ProofRules → Line → List ℕ → CertifyFault → Type 0
 HasNoReply rules line bytes Read = ⊥
 HasNoReply rules line bytes Write = ⊥
-HasNoReply rules line bytes (Memory lacking) = ⊤
+HasNoReply rules line bytes (Memory lacking) = IsReportDue rules line.kind bytes
 HasNoReply rules line bytes (GroupsMemory wanting) = (line.kind ≡ Within) × NamesCertifiable rules bytes
 HasNoReply rules line bytes CertificateWrite = ⊥
 

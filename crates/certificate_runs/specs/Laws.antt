@@ -1,5 +1,5 @@
 -- The laws of the definitions. Each is the contract of a function that does nothing.
-use Rattle.std.specs.Prelude.{ℕ, ◌≡◌, ◌≢◌, ◌⊎◌, ◌↔◌, List, [], ◌∷◌, ◌++◌, Option, None, Some, IsSome, Result, Ok, Err, Vec, codes}
+use Rattle.std.specs.Prelude.{ℕ, ◌≡◌, ◌≢◌, ◌≤◌, ◌⊎◌, ◌↔◌, true, false, List, [], ◌∷◌, ◌++◌, length, Option, None, Some, IsSome, Result, Ok, Err, Vec, codes}
 use Rattle.std.specs.declared.alloc.Global.{Global}
 use Rattle.reports.specs.declared.report.NoReport.{NoReport}
 use Rattle.board.specs.declared.moves.Move.{Move}
@@ -19,6 +19,7 @@ use Rattle.reports.specs.Readings.{Reads, SaysText, SaysNumber, HasStatus}
 use Rattle.reports.specs.Reports.{accepted_data, accepted_bound_data, refused_certificate_data, report_text}
 use Rattle.batch_lines.specs.Words.{IsEntry}
 use Rattle.batch_lines.specs.Lines.{lines_of}
+use Rattle.batch_lines.specs.declared.lines.TheConstants.{INPUT_LIMIT}
 use Rattle.batch_lines.specs.declared.lines.Line.{Line}
 use Rattle.byte_streams.specs.Streams.{SourceState, SinkState, Change}
 use Rattle.batch_runs.specs.Batches.{AnswersLine}
@@ -42,15 +43,19 @@ use Rattle.certificate.specs.Readings.{certificate, IsFirstFormatFault}
 use Rattle.certificate.specs.declared.faults.FormatFault.{FormatFault}
 use Rattle.certificate.specs.declared.faults.ReadFault.{ReadFault}
 use Rattle.certificate.specs.declared.faults.ReadFault.TheVariants.{Format}
-use Rattle.certificate_runs.specs.Rules.{ProofRules, rows_of, report_rules}
+use Rattle.certificate_runs.specs.Rules.{ProofRules, ProvesTruly, rows_of, report_rules}
 use Rattle.certificate_runs.specs.Built.{AreBuiltFor}
 use Rattle.certificate_runs.specs.Outputs.{Output}
-use Rattle.certificate_runs.specs.Certifying.{Replies, Claims, NeedsReport, HasNoReply, IsCertificateFor, certificate_output}
+use Rattle.certificate_runs.specs.Certifying.{Replies, Claims, NeedsReport, HasNoReply, HasFirst, IsCertificateFor, certificate_output}
 use Rattle.certificate_runs.specs.Checking.{Checks, EndsCheck, IsVerdictOutput}
 use Rattle.certificate_runs.specs.declared.faults.CertifyFault.{CertifyFault}
 use Rattle.certificate_runs.specs.declared.faults.CertifyFault.TheVariants as certify
 use Rattle.certificate_runs.specs.declared.faults.CheckFault.{CheckFault}
 use Rattle.certificate_runs.specs.declared.faults.CheckFault.TheVariants as check
+use Rattle.certificate_runs.specs.Showing.{EndsShow, Shows}
+use Rattle.certificate_runs.specs.Upgrading.{Upgrades}
+use Rattle.certificate_runs.specs.declared.faults.UpgradeFault.{UpgradeFault}
+use Rattle.certificate_runs.specs.declared.faults.UpgradeFault.TheVariants as upgrade
 
 -- a run that writes a certificate and ends by another fault than one of writing leaves the sink as it was
 abbrev pub OtherFaultsLeaveTheSink : ProofRules → Type 0
@@ -291,3 +296,155 @@ DrawingsAreWritten =
     → IsTrueShow style source sink (Ok status)
     → ((c : CertificateModel) × (drawing : List ℕ) × (certificate input ≡ Ok (c, [])) × ItsPlanLeads c × IsDrawing style c drawing × (sink.after.contents ≡ Some drawing) × (status ≡ 0))
     ⊎ ((code : List ℕ) × IsMistaken input code × (sink.after.contents ≡ Some (report_text (refused_certificate_data code))) × (status ≡ 5))
+
+-- a run that draws and ends by another fault than one of writing leaves the sink as it was
+abbrev pub OtherFaultsDrawNothing : Type 0
+OtherFaultsDrawNothing = (style : Style) (source : Change SourceState) (sink : Change SinkState) (fault : CheckFault) → fault ≢ check.Write → Shows style source sink (Err fault) → sink.after ≡ sink.before
+
+-- and so does one that upgrades
+abbrev pub OtherFaultsUpgradeNothing : Type 0
+OtherFaultsUpgradeNothing = (source : Change SourceState) (sink : Change SinkState) (fault : UpgradeFault) → fault ≢ upgrade.CertificateWrite → Upgrades source sink (Err fault) → sink.after ≡ sink.before
+
+-- where the input is known and the sink was empty, a check whose line can't be written leaves a beginning of a line that is read as JSON and
+-- says the truth of the input
+abbrev pub EarlyVerdictsBegin : Type 0
+EarlyVerdictsBegin =
+    (source : Change SourceState) (sink : Change SinkState) (input : List ℕ)
+    → source.before.left ≡ Some input
+    → sink.before.contents ≡ Some []
+    → Checks source sink (Err check.Write)
+    → (line written unwritten : List ℕ) × (d : Data) × (sink.after.contents ≡ Some written) × (line ++ 10 ∷ [] ≡ written ++ unwritten) × Reads line d × IsTrueVerdict input d
+
+-- an upgrade that can't be written leaves a beginning of the spelling of the certificate in version 2
+abbrev pub EarlyUpgradesBegin : Type 0
+EarlyUpgradesBegin =
+    (source : Change SourceState) (sink : Change SinkState) (input : List ℕ)
+    → source.before.left ≡ Some input
+    → sink.before.contents ≡ Some []
+    → Upgrades source sink (Err upgrade.CertificateWrite)
+    → (c : CertificateModel) × (written unwritten : List ℕ) × (certificate input ≡ Ok (c, [])) × (sink.after.contents ≡ Some written) × (spelling (upgraded c) ≡ written ++ unwritten)
+
+-- and a run that draws leaves a beginning of the drawing of the certificate, or of the report of what is wrong
+abbrev pub EarlyDrawingsBegin : Type 0
+EarlyDrawingsBegin =
+    (style : Style) (source : Change SourceState) (sink : Change SinkState) (input : List ℕ)
+    → source.before.left ≡ Some input
+    → sink.before.contents ≡ Some []
+    → Shows style source sink (Err check.Write)
+    → (output written unwritten : List ℕ) × (sink.after.contents ≡ Some written) × (output ≡ written ++ unwritten)
+    × (((c : CertificateModel) × (certificate input ≡ Ok (c, [])) × ItsPlanLeads c × IsDrawing style c output) ⊎ ((code : List ℕ) × IsMistaken input code × (output ≡ report_text (refused_certificate_data code))))
+
+-- memory is refused for a report of a known input only where something is wrong with it, and for the drawing of what was read only where its plan leads
+abbrev pub DrawingsLackTheirOwn : Type 0
+DrawingsLackTheirOwn =
+    ((style : Style) (source : Change SourceState) (sink : Change SinkState) (lacking : NoReport) (input : List ℕ)
+    → source.before.left ≡ Some input → Shows style source sink (Err (check.Memory lacking)) → (code : List ℕ) × IsMistaken input code)
+    × ((style : Style) (sink : Change SinkState) (refused : OutOfMemory) (c : CertificateModel) → EndsShow style (Ok c) sink (Err (check.CertificateMemory refused)) → ItsPlanLeads c)
+
+-- memory is refused for a report of the first line only where something may be reported of the board that the line names, if it names one
+abbrev pub ReportsLackTheirOwn : ProofRules → Type 0
+ReportsLackTheirOwn rules =
+    (split : PartitionModel) (source : Change SourceState) (sink : Change SinkState) (lacking : NoReport)
+    → Replies split rules source sink (Err (certify.Memory lacking))
+    → (first : HasFirst source) × ((id : List ℕ) (b : BoardModel) → Names rules.grid first.line id b → (ending : Option Ending) × (report_rules rules).allows b ending)
+
+-- where the input is known and the sink was empty, a certificate that can't be written begins one of the board that the first asking line names
+abbrev pub EarlyCertificatesBegin : ProofRules → Type 0
+EarlyCertificatesBegin rules =
+    (split : PartitionModel) (source : Change SourceState) (sink : Change SinkState) (input : List ℕ)
+    → source.before.left ≡ Some input
+    → sink.before.contents ≡ Some []
+    → Replies split rules source sink (Err certify.CertificateWrite)
+    → (lines more : List (List ℕ)) × (n : ℕ) × (line id written unwritten : List ℕ) × (b : BoardModel) × (c : CertificateModel)
+    × (lines_of input ≡ lines ++ more) × (questions 1 lines ≡ (n, line) ∷ []) × Names rules.grid line id b × (sink.after.contents ≡ Some written)
+    × CertifiesTruly split (rules.task b) c (written ++ unwritten)
+
+-- and a report that can't be written begins one that tells the truth of that line
+abbrev pub EarlyReportsBegin : ProofRules → Type 0
+EarlyReportsBegin rules =
+    ProvesTruly rules
+    → (split : PartitionModel) (source : Change SourceState) (sink : Change SinkState) (input : List ℕ)
+    → source.before.left ≡ Some input
+    → sink.before.contents ≡ Some []
+    → Replies split rules source sink (Err certify.Write)
+    → (lines more : List (List ℕ)) × (n : ℕ) × (line written unwritten : List ℕ)
+    × (lines_of input ≡ lines ++ more) × (questions 1 lines ≡ (n, line) ∷ []) × (sink.after.contents ≡ Some written)
+    × TellsTheTruth (report_rules rules) lines (written ++ unwritten)
+
+-- The status is 0 where nothing is written since no line asks, where a certificate claims a plan, and where a report says that there is none.
+-- It is 1 where a certificate claims a bound, and where a report says a bound or refuses the line.
+abbrev pub StatusTellsOutput : List (List ℕ) → List ℕ → ℕ → Type 0
+StatusTellsOutput lines output status =
+    ((questions 1 lines ≡ []) × (output ≡ []) × (status ≡ 0))
+    ⊎ ((c : CertificateModel) × (certificate output ≡ Ok (c, [])) × (status ≡ 0 ↔ IsSome c.plan) × (status ≡ 1 ↔ (c.plan ≡ None)))
+    ⊎ ((d : Data) × IsReply output 0 d × ((HasStatus d (codes "unsolvable") × (status ≡ 0)) ⊎ ((HasStatus d (codes "bounded") ⊎ HasStatus d (codes "refused")) × (status ≡ 1))))
+
+-- where the input is known and the sink was empty, the status of a run that ends well says so of what the sink holds
+abbrev pub AnswerStatusesTell : ProofRules → Type 0
+AnswerStatusesTell rules =
+    (split : PartitionModel) (source : Change SourceState) (sink : Change SinkState) (status : ℕ) (input : List ℕ)
+    → source.before.left ≡ Some input
+    → sink.before.contents ≡ Some []
+    → Replies split rules source sink (Ok status)
+    → (lines more : List (List ℕ)) × (output : List ℕ) × (lines_of input ≡ lines ++ more) × (sink.after.contents ≡ Some output) × StatusTellsOutput lines output status
+
+-- the line that a check of a known input leaves says `accepted` with the status 0, or `refused` with the status 5
+abbrev pub VerdictStatusesTell : Type 0
+VerdictStatusesTell =
+    (source : Change SourceState) (sink : Change SinkState) (status : ℕ) (input : List ℕ)
+    → source.before.left ≡ Some input
+    → sink.before.contents ≡ Some []
+    → Checks source sink (Ok status)
+    → (line : List ℕ) × (d : Data) × (sink.after.contents ≡ Some (line ++ 10 ∷ [])) × Reads line d
+    × ((HasStatus d (codes "accepted") × (status ≡ 0)) ⊎ (HasStatus d (codes "refused") × (status ≡ 5)))
+
+-- a check accepts a certificate that says the truth of a task as a run that answers a line writes it
+abbrev pub CertificatesAreAccepted : Type 0
+CertificatesAreAccepted =
+    (split : PartitionModel) (task : Task) (c : CertificateModel) (source : Change SourceState) (sink : Change SinkState) (status : ℕ) (input : List ℕ)
+    → CertifiesTruly split task c input
+    → source.before.left ≡ Some input
+    → Checks source sink (Ok status)
+    → status ≡ 0
+
+-- a run over a certificate says that it can't be read exactly where the source has failed
+abbrev pub FailedCertificatesAreTold : Type 0
+FailedCertificatesAreTold =
+    ((source : Change SourceState) (sink : Change SinkState) (result : Result ℕ CheckFault) → Checks source sink result → result ≡ Err check.CertificateRead ↔ (source.after.has_failed ≡ true))
+    × ((style : Style) (source : Change SourceState) (sink : Change SinkState) (result : Result ℕ CheckFault) → Shows style source sink result → result ≡ Err check.CertificateRead ↔ (source.after.has_failed ≡ true))
+    × ((source : Change SourceState) (sink : Change SinkState) (result : Result ℕ UpgradeFault) → Upgrades source sink result → result ≡ Err upgrade.CertificateRead ↔ (source.after.has_failed ≡ true))
+
+-- a run whose output can't be written leaves a sink that has failed, and no other run lets it fail
+abbrev pub FailedVerdictsAreTold : Type 0
+FailedVerdictsAreTold =
+    ((source : Change SourceState) (sink : Change SinkState) → Checks source sink (Err check.Write) → sink.after.has_failed ≡ true)
+    × ((source : Change SourceState) (sink : Change SinkState) (result : Result ℕ CheckFault) → result ≢ Err check.Write → Checks source sink result → sink.after.has_failed ≡ sink.before.has_failed)
+    × ((style : Style) (source : Change SourceState) (sink : Change SinkState) → Shows style source sink (Err check.Write) → sink.after.has_failed ≡ true)
+    × ((style : Style) (source : Change SourceState) (sink : Change SinkState) (result : Result ℕ CheckFault) → result ≢ Err check.Write → Shows style source sink result → sink.after.has_failed ≡ sink.before.has_failed)
+    × ((source : Change SourceState) (sink : Change SinkState) → Upgrades source sink (Err upgrade.CertificateWrite) → sink.after.has_failed ≡ true)
+    × ((source : Change SourceState) (sink : Change SinkState) (result : Result ℕ UpgradeFault) → result ≢ Err upgrade.CertificateWrite → Upgrades source sink result → sink.after.has_failed ≡ sink.before.has_failed)
+
+-- a run that answers a line says that the input can't be read where the source has failed; it says so of an input within the limit only there
+abbrev pub FailedLinesAreTold : ProofRules → Type 0
+FailedLinesAreTold rules =
+    ((split : PartitionModel) (source : Change SourceState) (sink : Change SinkState) (input : List ℕ)
+    → source.before.left ≡ Some input → length input ≤ INPUT_LIMIT → Replies split rules source sink (Err certify.Read) → source.after.has_failed ≡ true)
+    × ((split : PartitionModel) (source : Change SourceState) (sink : Change SinkState) (result : Result ℕ CertifyFault) → result ≢ Err certify.Read → Replies split rules source sink result → source.after.has_failed ≡ false)
+
+-- where its reply can't be written the sink has failed, and no other run lets it fail
+abbrev pub FailedRepliesAreTold : ProofRules → Type 0
+FailedRepliesAreTold rules =
+    ((split : PartitionModel) (source : Change SourceState) (sink : Change SinkState) (fault : CertifyFault)
+    → (fault ≡ certify.Write) ⊎ (fault ≡ certify.CertificateWrite) → Replies split rules source sink (Err fault) → sink.after.has_failed ≡ true)
+    × ((split : PartitionModel) (source : Change SourceState) (sink : Change SinkState) (result : Result ℕ CertifyFault)
+    → result ≢ Err certify.Write → result ≢ Err certify.CertificateWrite → Replies split rules source sink result → sink.after.has_failed ≡ sink.before.has_failed)
+
+-- where some line of a known input asks, a run that ends well takes the lines up to the first such line, and leaves those behind it
+abbrev pub NothingBehindIsTaken : ProofRules → Type 0
+NothingBehindIsTaken rules =
+    (split : PartitionModel) (source : Change SourceState) (sink : Change SinkState) (status : ℕ) (input rest : List ℕ)
+    → source.before.left ≡ Some input
+    → source.after.left ≡ Some rest
+    → questions 1 (lines_of input) ≢ []
+    → Replies split rules source sink (Ok status)
+    → (lines : List (List ℕ)) × (n : ℕ) × (line : List ℕ) × (lines_of input ≡ lines ++ lines_of rest) × (questions 1 lines ≡ (n, line) ∷ [])

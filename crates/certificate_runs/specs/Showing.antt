@@ -12,8 +12,9 @@ use Rattle.certificate_check.specs.Refusals.{ItsPlanLeads, IsFirstRefusal, refus
 use Rattle.drawings.specs.declared.drawing.Style.{Style}
 use Rattle.drawings.specs.Drawings.{IsDrawing}
 use Rattle.lower_bound.specs.Tables.{BoundModel}
+use Rattle.memory.specs.declared.OutOfMemory.{OutOfMemory}
 use Rattle.certificate_runs.specs.Outputs.{Output, IsUntouched}
-use Rattle.certificate_runs.specs.Checking.{IsRefusedReport, HasVerdict, WantsMemory}
+use Rattle.certificate_runs.specs.Checking.{IsRefusedReport}
 use Rattle.certificate_runs.specs.declared.faults.CheckFault.{CheckFault}
 use Rattle.certificate_runs.specs.declared.faults.CheckFault.TheVariants.{CertificateRead, CertificateMemory, Write, Memory}
 
@@ -43,14 +44,23 @@ IsShowOutput style (Err (Format fault)) output = IsRefusedReport (format_code fa
 IsShowOutput style (Err Failed) output = ⊥
 IsShowOutput style (Err (NoMemory refused)) output = ⊥
 
+-- a report is due of what was read, with the status 5: of a plan that does not lead, or of a fault of the bytes
+abbrev pub IsRefusalDue : Style → Result CertificateModel ReadFault → Type 0
+IsRefusalDue style read = (output : Output) × IsShowOutput style read output × (output.status ≡ 5)
+
+-- memory was refused for the certificate, or for the drawing of the one that was read, whose plan leads
+abbrev pub LacksDrawing : Result CertificateModel ReadFault → OutOfMemory → Type 0
+LacksDrawing read refused = (read ≡ Err (NoMemory refused)) ⊎ ((c : CertificateModel) × (read ≡ Ok c) × ItsPlanLeads c)
+
 -- How the run ends after this was read. What is to be shown is written; or writing failed, and a beginning of it is written; or memory was
--- refused, and nothing is written. Where there is nothing to show, the answer says why, and nothing is written.
+-- refused for a report that is due, or for a drawing, and nothing is written. Where there is nothing to show, the answer says why, and nothing
+-- is written.
 abbrev pub EndsShow : Style → Result CertificateModel ReadFault → Change SinkState → Result ℕ CheckFault → Type 0
 EndsShow style read sink (Ok status) = (output : Output) × IsShowOutput style read output × WritesAll sink output.text × (status ≡ output.status)
 EndsShow style read sink (Err Write) = (output : Output) × IsShowOutput style read output × FailsWriting sink output.text
-EndsShow style read sink (Err (Memory lacking)) = HasVerdict read × IsUntouched sink
+EndsShow style read sink (Err (Memory lacking)) = IsRefusalDue style read × IsUntouched sink
 EndsShow style read sink (Err CertificateRead) = (read ≡ Err Failed) × IsUntouched sink
-EndsShow style read sink (Err (CertificateMemory refused)) = WantsMemory read refused × IsUntouched sink
+EndsShow style read sink (Err (CertificateMemory refused)) = LacksDrawing read refused × IsUntouched sink
 
 -- a certificate is read of the source, and the run ends so
 abbrev pub Shows : Style → Change SourceState → Change SinkState → Result ℕ CheckFault → Type 0

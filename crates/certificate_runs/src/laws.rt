@@ -21,11 +21,21 @@ ghost use Rattle.certificate_runs.specs.Laws.{MistakenInputsHaveTheirCode};
 ghost use Rattle.certificate_runs.specs.Laws.{MistakenCertificatesHaveACause};
 ghost use Rattle.certificate_runs.specs.Laws.{VerdictsAreWritten, UpgradesAreWritten};
 ghost use Rattle.certificate_runs.specs.Laws.{DrawingsAreWritten};
+ghost use Rattle.certificate_runs.specs.Laws.{OtherFaultsDrawNothing, OtherFaultsUpgradeNothing};
+ghost use Rattle.certificate_runs.specs.Laws.{DrawingsLackTheirOwn, ReportsLackTheirOwn};
+ghost use Rattle.certificate_runs.specs.Laws.{EarlyVerdictsBegin, EarlyUpgradesBegin};
+ghost use Rattle.certificate_runs.specs.Laws.{EarlyDrawingsBegin, EarlyCertificatesBegin};
+ghost use Rattle.certificate_runs.specs.Laws.{EarlyReportsBegin, AnswerStatusesTell};
+ghost use Rattle.certificate_runs.specs.Laws.{VerdictStatusesTell, CertificatesAreAccepted};
+ghost use Rattle.certificate_runs.specs.Laws.{FailedCertificatesAreTold};
+ghost use Rattle.certificate_runs.specs.Laws.{FailedVerdictsAreTold, FailedLinesAreTold};
+ghost use Rattle.certificate_runs.specs.Laws.{FailedRepliesAreTold, NothingBehindIsTaken};
 
 use crate::certifying::ProofRuled;
 
 /// A run that writes a certificate and ends by another fault than one of writing leaves the sink as
 /// it was.
+#[tactic(auto, using(crate::proofs::HeadlineLemmas::left))]
 pub fn other_faults_leave_the_sink<A: ProofRuled>(asked: &A)
     ensures { OtherFaultsLeaveTheSink (A.rules asked.now) }
 {
@@ -85,6 +95,7 @@ pub fn certificates_tell_of_tasks()
 
 /// A certificate claims what an outcome says that its board may be answered by, and has its rows.
 /// V3 is reported, memory is refused for groups, and a bound is said only where the rules allow it.
+#[tactic(auto, using(crate::proofs::HeadlineLemmas::of_outcomes, crate::proofs::HeadlineLemmas::wants_of_rules, crate::proofs::HeadlineLemmas::groups_wanted, crate::proofs::HeadlineLemmas::bounds_lack))]
 pub fn replies_are_of_rules<A: ProofRuled>(asked: &A)
     ensures certificates { CertificatesAreOfOutcomes (A.rules asked.now) }
     ensures wants { WantsAreOfRules (A.rules asked.now) }
@@ -130,3 +141,55 @@ pub fn runs_leave_what_they_tell()
     ensures upgrades { UpgradesAreWritten }
     ensures drawings { DrawingsAreWritten }
 {}
+
+/// A run that draws or upgrades and ends by another fault than one of writing leaves the sink as it
+/// was. Memory is refused for a report only where one is due, and for a drawing only where it is.
+#[tactic(auto, using(crate::proofs::EndLemmas::drew_nothing, crate::proofs::EndLemmas::upgraded_nothing, crate::proofs::EndLemmas::drawings_lack))]
+pub fn other_faults_draw_nothing()
+    ensures drawings { OtherFaultsDrawNothing }
+    ensures upgrades { OtherFaultsUpgradeNothing }
+    ensures memory { DrawingsLackTheirOwn }
+{}
+
+/// A run over a certificate says that it can't be read exactly where the source has failed, and that
+/// its output can't be written where the sink has failed. No other run lets the sink fail.
+#[tactic(auto, using(crate::proofs::EndLemmas::failed_certificates, crate::proofs::EndLemmas::failed_verdicts))]
+pub fn failed_certificates_are_told()
+    ensures sources { FailedCertificatesAreTold }
+    ensures sinks { FailedVerdictsAreTold }
+{}
+
+/// The line that a check leaves says that the certificate is accepted with the status 0, and that it
+/// is refused with the status 5. A check accepts what a run that answers a line writes as a
+/// certificate. Where the input is known and the sink was empty, a run that can't write leaves a
+/// beginning of a true verdict, of the spelling in version 2, or of the drawing.
+pub fn checks_end_as_told()
+    ensures statuses { VerdictStatusesTell }
+    ensures accepted { CertificatesAreAccepted }
+    ensures verdicts { EarlyVerdictsBegin }
+    ensures upgrades { EarlyUpgradesBegin }
+    ensures drawings { EarlyDrawingsBegin }
+{}
+
+/// How a run that answers the first asking line ends. Its status tells of the output that it leaves.
+/// A certificate or a report that can't be written is begun. Memory is refused for a report only
+/// where something may be reported. No line behind the asking one is taken.
+pub fn answers_end_as_told<A: ProofRuled>(asked: &A)
+    ensures status { AnswerStatusesTell (A.rules asked.now) }
+    ensures certificates { EarlyCertificatesBegin (A.rules asked.now) }
+    ensures reports { EarlyReportsBegin (A.rules asked.now) }
+    ensures memory { ReportsLackTheirOwn (A.rules asked.now) }
+    ensures behind { NothingBehindIsTaken (A.rules asked.now) }
+{
+    let _ = asked;
+}
+
+/// Such a run says that the input can't be read, or its output written, where a stream has failed.
+/// No other run leaves a source that has failed, or lets the sink fail.
+#[tactic(auto, using(crate::proofs::EndLemmas::failed_lines, crate::proofs::EndLemmas::failed_replies))]
+pub fn failed_lines_are_told<A: ProofRuled>(asked: &A)
+    ensures sources { FailedLinesAreTold (A.rules asked.now) }
+    ensures sinks { FailedRepliesAreTold (A.rules asked.now) }
+{
+    let _ = asked;
+}

@@ -1,4 +1,4 @@
-use Rattle.std.proofs.Common.{refl, string_bytes, sym, subst, ◌≡◌, Some}
+use Rattle.std.proofs.Common.{refl, string_bytes, sym, subst, ◌≡◌, None, Some, inl, inr}
 use Rattle.certificate_runs.specs.Rules.{MayReport}
 use Rattle.std.proofs.lemmas.Result.{IfOk-weaker, IfErr-weaker}
 use Rattle.reports.specs.declared.report.NoReport.{NoReport}
@@ -29,8 +29,9 @@ pub returns-in-Err-clause-lacking : goal.returns-in-Err-clause-lacking
 returns-in-Err-clause-lacking g c =
     let prover = g.A.ProofRuled.rules c.args.prover.now in
     let fits = g.met.A.Prover.fits c.args.prover.now in
+    let fault = subst (λ (grid : ShapeModel). IsFirstEntryFault grid c.args.bytes.now c.in-Err.fault) (sym fits.grid) (rw (c.shape.ensures, c.setup-setup.ensures) at (c.in-Err.ensures.fault c.in-Err.fault).0 refl) in
     IfErr-weaker c.refuse.result (λ fault. (lacking : NoReport) × (fault ≡ Memory lacking)) (HasNoReply prover (within c.args.number) c.args.bytes.now)
-    (λ fault lacks. report_lacks prover (within c.args.number) c.args.bytes.now fault lacks) c.refuse.ensures.lacking
+    (λ told lacks. report_lacks prover (within c.args.number) c.args.bytes.now told (inl (c.in-Err.fault, fault)) lacks) c.refuse.ensures.lacking
 
 pub returns-in-Err-prove-clause-reply : goal.returns-in-Err-prove-clause-reply
 returns-in-Err-prove-clause-reply g c =
@@ -45,8 +46,9 @@ pub returns-in-Err-prove-clause-lacking : goal.returns-in-Err-prove-clause-lacki
 returns-in-Err-prove-clause-lacking g c =
     let prover = g.A.ProofRuled.rules c.args.prover.now in
     let fits = g.met.A.Prover.fits c.args.prover.now in
+    let entry = subst (λ (grid : ShapeModel). IsEntry grid c.args.bytes.now c.in-Ok.entry.id.now c.in-Ok.entry.board) (sym fits.grid) (rw (c.shape.ensures, c.setup-setup.ensures) at c.in-Ok.ensures.entry) in
     IfErr-weaker c.refuse-in-Err-prove.result (λ fault. (lacking : NoReport) × (fault ≡ Memory lacking)) (HasNoReply prover (within c.args.number) c.args.bytes.now)
-    (λ fault lacks. report_lacks prover (within c.args.number) c.args.bytes.now fault lacks) c.refuse-in-Err-prove.ensures.lacking
+    (λ told lacks. report_lacks prover (within c.args.number) c.args.bytes.now told (inr (c.in-Ok.entry.id.now, c.in-Ok.entry.board, None, entry, c.in-Err-prove.ensures)) lacks) c.refuse-in-Err-prove.ensures.lacking
 
 pub returns-in-Err-certify-clause-lacking : goal.returns-in-Err-certify-clause-lacking
 returns-in-Err-certify-clause-lacking g c =
@@ -78,3 +80,14 @@ returns-in-Ok-outcome_report g c =
       reply = reported_entry prover c.args.number c.args.bytes.now entry.id.now (string_bytes c.in-Ok-outcome_report.text) entry.board ending c.status_of.result named allowed c.in-Ok-outcome_report.ensures.small made.2 c.in-Ok-outcome_report.ensures.text c.status_of.ensures;
       lacking = tt;
     }
+
+pub returns-clause-lacking : goal.returns-clause-lacking
+returns-clause-lacking g c =
+    let prover = g.A.ProofRuled.rules c.args.prover.now in
+    let fits = g.met.A.Prover.fits c.args.prover.now in
+    let entry = c.in-Ok.entry in
+    let ending = c.in-Plain.ending in
+    let named = subst (λ (grid : ShapeModel). IsEntry grid c.args.bytes.now entry.id.now entry.board) (sym fits.grid) (rw (c.shape.ensures, c.setup-setup.ensures) at c.in-Ok.ensures.entry) in
+    let made = rw c.in-Plain.is at c.in-Ok-certify.ensures.made in
+    let allowed : MayReport prover entry.board (Some ending) = (c.in-Ok-prove.outcome, c.in-Ok-prove.ensures, sym made.0, made.1) in
+    inr (entry.id.now, entry.board, Some ending, named, allowed)

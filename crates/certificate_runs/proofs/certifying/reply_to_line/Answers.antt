@@ -3,7 +3,7 @@ use Rattle.reports.specs.declared.report.NoReport.{NoReport}
 use Rattle.std.proofs.Common.{◌≡◌}
 use Rattle.certificate_runs.specs.declared.faults.CertifyFault.TheVariants.{Memory}
 use Rattle.certificate_runs.specs.Certifying.{IsCertifyReply, IsRefusalReply, HasNoReply}
-use Rattle.certificate_runs.proofs.CertifyLemmas.{refused_line, report_lacks}
+use Rattle.certificate_runs.proofs.CertifyLemmas.{refused_line, due_long, report_lacks}
 use Rattle.certificate_runs.proofs.certifying.reply_to_line.Goals as goal
 
 pub returns-in_default-clause-reply : goal.returns-in_default-clause-reply
@@ -17,4 +17,4 @@ pub returns-in_default-clause-lacking : goal.returns-in_default-clause-lacking
 returns-in_default-clause-lacking g c =
     let rules = g.A.ProofRuled.rules c.args.prover.now in
     IfErr-weaker c.refuse.result (λ fault. (lacking : NoReport) × (fault ≡ Memory lacking)) (HasNoReply rules c.args.line c.args.bytes.now)
-    (λ fault lacks. report_lacks rules c.args.line c.args.bytes.now fault lacks) c.refuse.ensures.lacking
+    (λ fault lacks. report_lacks rules c.args.line c.args.bytes.now fault (due_long rules c.args.line.kind c.args.bytes.now c.requires.kind c.in_default.not-Within) lacks) c.refuse.ensures.lacking

@@ -1,5 +1,5 @@
 use Rattle.byte_streams.specs.Streams.{change}
-use Rattle.certificate_runs.proofs.ShowLemmas.{show_true}
+use Rattle.certificate_runs.proofs.EndLemmas.{show_true}
 use Rattle.certificate_runs.proofs.showing.run_show.Goals as goal
 
 pub returns-clause-truth : goal.returns-clause-truth
