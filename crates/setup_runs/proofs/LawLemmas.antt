@@ -19,7 +19,7 @@ use Rattle.world_model.specs.declared.limits.TheConstants.{GREATEST_GRANT}
 use Rattle.world_ends.proofs.PartLemmas.{ends_bounded}
 use Rattle.world_model.proofs.KeptLemmas.{causes_stop}
 use Rattle.batch_runs.specs.Setups.{SetupModel, owner_by}
-use Rattle.setup_runs.specs.Laws.{StatsAreOfTheSetups, job_by, BoundsAreNeverCut, LimitsAreTheSetups, LimitsAreNearlySpent, StatsAreOfWorlds, StatsAreWithinTheLimit}
+use Rattle.setup_runs.specs.Laws.{StatsAreOfTheSetups, job_by, BoundsAreNeverCut, LimitsAreTheSetups, LimitsAreNearlySpent, StatsAreOfWorlds, StatsAreWithinTheLimit, FiguresAreOfBoards}
 use Rattle.std.specs.FinMap as map
 use Rattle.std.specs.Prelude.{min, ◌^◌, ◌-◌, sum_by}
 use Rattle.board.specs.Classes.{SameClass}
@@ -140,3 +140,8 @@ stats_within_limits setup start solved (figures, of_run, stats) = by_class (one_
     by_class : SameClass start setup.goal ⊎ (¬ SameClass start setup.goal) → solved.stats.expanded ≤ setup.limit
     by_class (inl together) = by_run (of_run.run together)
     by_class (inr other) = let e = stats.expanded in let none : figures.expanded ≡ 0 = ap (λ (f : Figures). f.expanded) (of_run.apart other) in omega (arith, e, none)
+
+pub figures_of_boards : FiguresAreOfBoards
+figures_of_boards id stats (setup, line, b, ending, entry, has) =
+    let solved : Solved = record { ending = ending; stats = stats } in
+    (setup, line, b, entry, (stats_of_worlds setup b solved has).2, stats_within_limits setup b solved has)

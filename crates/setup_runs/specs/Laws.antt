@@ -24,8 +24,10 @@ use Rattle.world_model.specs.Openings.{Job, opening}
 use Rattle.world_model.specs.Steps.{IsRun}
 use Rattle.world_model.specs.Worlds.{WorldState}
 use Rattle.batch_runs.specs.Setups.{SetupModel, task_of_setup}
+use Rattle.batch_lines.specs.Words.{IsEntry}
+use Rattle.batch_runs.specs.declared.stats.Stats.{Stats}
 use Rattle.batch_runs.specs.declared.stats.Solved.{Solved}
-use Rattle.setup_runs.specs.Solving.{MayAnswer, MayCertify, HasStats}
+use Rattle.setup_runs.specs.Solving.{MayAnswer, MayCertify, HasStats, AreFiguresOfLine}
 
 -- a board of the other class is never refused for memory
 abbrev pub ParityWantsNoMemory : Type 0
@@ -104,3 +106,12 @@ StatsAreOfTheSetups =
 -- The stats of a board count no more expansions than the setup allows.
 abbrev pub StatsAreWithinTheLimit : Type 0
 StatsAreWithinTheLimit = (setup : SetupModel) (start : BoardModel) (solved : Solved) → HasStats setup start solved → solved.stats.expanded ≤ setup.limit
+
+-- The figures that a watch takes with an id are those of a board: its line has that id, the sum is that of the setup's tables for it, and no
+-- more is expanded than the setup allows.
+abbrev pub FiguresAreOfBoards : Type 0
+FiguresAreOfBoards =
+    (id : List ℕ) (stats : Stats)
+    → AreFiguresOfLine id stats
+    → (setup : SetupModel) × (line : List ℕ) × (b : BoardModel)
+    × IsEntry setup.goal.grid line id b × (stats.start_sum ≡ (task_of_setup setup b).sum b) × (stats.expanded ≤ setup.limit)

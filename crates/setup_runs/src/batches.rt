@@ -4,6 +4,7 @@ ghost use Rattle.std.specs.Prelude.{◌≡◌, ◌⊎◌, All, IfOk};
 ghost use Rattle.byte_streams.specs.Streams.{change};
 ghost use Rattle.batch_runs.specs.Batches.{ReportsLines, HasFailed, MayGive, AreAllowed};
 ghost use Rattle.batch_runs.specs.Headline.{IsTrueRun};
+ghost use Rattle.batch_runs.specs.Stats.{HandsFigures};
 ghost use Rattle.setup_runs.specs.Solving.{HasStats, rules_of};
 
 use crate::ahead::{boards_ahead, end_ahead};
@@ -54,6 +55,8 @@ impl<
         × All (λ it. HasStats guided.setup.now it.0 it.1) result.items) };
 
     ghost has_stats = { λ guided b solved. HasStats guided.setup.now b solved };
+
+    ghost has_observed = { λ guided id solved. W.has_taken guided.watch.now id solved.stats };
 
     fn shape(&self) -> Shape {
         self.setup.shape()
@@ -110,7 +113,8 @@ pub fn run_batch<R: Threads + Wait + Sync, S: Source, K: Sink, G: Gate + Sync>(
 }
 
 /// Runs a batch as `run_batch` does, under a watch. It is handed the figures of each line whose
-/// board is answered, in the order of the lines, before its report is written.
+/// board is answered, in the order of the lines, before its report is written. The clause `figures`
+/// says so, except the order: they are those of the line's board under this setup.
 pub fn run_watched<R: Threads + Wait + Sync, S: Source, K: Sink, W: Watch + Sync>(
     rt: &R,
     alloc: Global,
@@ -125,6 +129,9 @@ pub fn run_watched<R: Threads + Wait + Sync, S: Source, K: Sink, W: Watch + Sync
         (change K.state sink.old sink.new) result }
     ensures flushed { K.is_flushed sink.new ⊎ (sink.new ≡ sink.old)
         ⊎ HasFailed (K.state sink.new) }
+    ensures figures { HandsFigures (rules_of setup.now)
+        (λ id b solved. HasStats setup.now b solved × W.has_taken watch.now id solved.stats)
+        (S.state source.old).left (change K.state sink.old sink.new) }
 {
     let solve = |start: &Board| -> Result<Solved, OutOfMemory>
         requires { start.now.grid ≡ setup.now.goal.grid }

@@ -5,7 +5,12 @@ ghost use Rattle.setup_runs.specs.Laws.{BoundsAreNeverCut, LimitsAreTheSetups};
 ghost use Rattle.setup_runs.specs.Laws.{LimitsAreNearlySpent};
 ghost use Rattle.setup_runs.specs.Laws.{ParityIsCertified, CertifiedEndsAreAnswered};
 ghost use Rattle.setup_runs.specs.Laws.{StatsAreOfWorlds, StatsAreOfTheSetups};
-ghost use Rattle.setup_runs.specs.Laws.{StatsAreWithinTheLimit};
+ghost use Rattle.setup_runs.specs.Laws.{StatsAreWithinTheLimit, FiguresAreOfBoards};
+ghost use Rattle.setup_runs.specs.Solving.{HasStats, rules_of};
+ghost use Rattle.batch_runs.specs.Laws.{FiguresBelongToReports};
+ghost use Rattle.batch_runs.specs.Setups.{SetupModel};
+
+use crate::watching::Watch;
 
 /// A board of the other class is never refused for memory.
 pub fn parity_wants_no_memory()
@@ -47,3 +52,20 @@ pub fn stats_are_of_worlds()
 pub fn stats_are_within_the_limit()
     ensures { StatsAreWithinTheLimit }
 {}
+
+/// The figures that a watch takes are those of a board that a line names by the same id.
+#[tactic(auto, using(crate::proofs::LawLemmas::figures_of_boards))]
+pub fn figures_are_of_boards()
+    ensures { FiguresAreOfBoards }
+{}
+
+/// Where a run over a known input hands over figures and the output was empty, each report of an
+/// ending belongs to figures that the watch took with its id. They are those of the search for the
+/// board of its line, under the setup of the run.
+#[tactic(auto, using(batch_runs::proofs::BatchLemmas::figures_belong))]
+pub fn figures_belong_to_reports<W: Watch>(watch: &W)
+    ensures { (setup : SetupModel) → FiguresBelongToReports (rules_of setup)
+        (λ id b solved. HasStats setup b solved × W.has_taken watch.now id solved.stats) }
+{
+    let _ = watch;
+}

@@ -1,5 +1,6 @@
 //! What watches a run.
 
+ghost use Rattle.std.specs.Prelude.{ℕ, List, ⊤};
 ghost use Rattle.setup_runs.specs.Solving.{AreFiguresOfLine};
 
 use batch_runs::Stats;
@@ -9,12 +10,18 @@ use owners::Spread;
 /// A gate that is passed after each step of a search, a clock, and whoever takes the figures of
 /// lines. No contract says what becomes of these.
 pub trait Watch: Gate {
+    ghost use Rattle.batch_runs.specs.declared.stats.Stats.{Stats};
+
+    // Figures were taken with this id: for any watch this follows from `observe` alone.
+    ghost has_taken: { Self → List ℕ → Stats → Type 0 } = { λ _ _ _. ⊤ };
+
     /// The microseconds since some moment.
     fn microseconds(&self) -> u64;
 
     /// Takes the figures of the line with this id, whose board is answered.
     fn observe(&self, id: &str, stats: &Stats)
-        requires { AreFiguresOfLine id.now stats.now };
+        requires { AreFiguresOfLine id.now stats.now }
+        ensures { has_taken self.now id.now stats.now };
 
     /// Shows that no bound is known, where one is wanted: several workers share the boards.
     fn show_no_bound(&self)
