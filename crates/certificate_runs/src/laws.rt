@@ -154,7 +154,7 @@ pub fn other_faults_draw_nothing()
 /// A run over a certificate says that it can't be read exactly where the source has failed, and that
 /// its output can't be written where the sink has failed. No other run lets the sink fail.
 #[tactic(auto, using(crate::proofs::EndLemmas::failed_certificates, crate::proofs::EndLemmas::failed_verdicts))]
-pub fn failed_certificates_are_told()
+pub fn failed_certificates_are_named()
     ensures sources { FailedCertificatesAreTold }
     ensures sinks { FailedVerdictsAreTold }
 {}
@@ -163,7 +163,7 @@ pub fn failed_certificates_are_told()
 /// is refused with the status 5. A check accepts what a run that answers a line writes as a
 /// certificate. Where the input is known and the sink was empty, a run that can't write leaves a
 /// beginning of a true verdict, of the spelling in version 2, or of the drawing.
-pub fn checks_end_as_told()
+pub fn checks_end_as_reported()
     ensures statuses { VerdictStatusesTell }
     ensures accepted { CertificatesAreAccepted }
     ensures verdicts { EarlyVerdictsBegin }
@@ -174,7 +174,7 @@ pub fn checks_end_as_told()
 /// How a run that answers the first asking line ends. Its status tells of the output that it leaves.
 /// A certificate or a report that can't be written is begun. Memory is refused for a report only
 /// where something may be reported. No line behind the asking one is taken.
-pub fn answers_end_as_told<A: ProofRuled>(asked: &A)
+pub fn answers_end_as_reported<A: ProofRuled>(asked: &A)
     ensures status { AnswerStatusesTell (A.rules asked.now) }
     ensures certificates { EarlyCertificatesBegin (A.rules asked.now) }
     ensures reports { EarlyReportsBegin (A.rules asked.now) }
@@ -187,7 +187,7 @@ pub fn answers_end_as_told<A: ProofRuled>(asked: &A)
 /// Such a run says that the input can't be read, or its output written, where a stream has failed.
 /// No other run leaves a source that has failed, or lets the sink fail.
 #[tactic(auto, using(crate::proofs::EndLemmas::failed_lines, crate::proofs::EndLemmas::failed_replies))]
-pub fn failed_lines_are_told<A: ProofRuled>(asked: &A)
+pub fn failed_lines_are_named<A: ProofRuled>(asked: &A)
     ensures sources { FailedLinesAreTold (A.rules asked.now) }
     ensures sinks { FailedRepliesAreTold (A.rules asked.now) }
 {

@@ -1,5 +1,5 @@
 use Rattle.certificate_runs.proofs.EndLemmas.{answer_statuses, early_certificates, early_reports, none_behind, reports_lack}
-use Rattle.certificate_runs.proofs.laws.answers_end_as_told.Goals as goal
+use Rattle.certificate_runs.proofs.laws.answers_end_as_reported.Goals as goal
 
 pub returns : goal.returns
 returns g c =
