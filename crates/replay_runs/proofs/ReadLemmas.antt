@@ -47,7 +47,40 @@ use Rattle.outcomes.specs.declared.outcome.Outcome.TheVariants as out
 use Rattle.world_model.specs.Openings.{opening}
 use Rattle.batch_runs.specs.Batches.{AreAll, AreFirst}
 use Rattle.batch_runs.specs.Meanings.{HasFault, questions, IsQuestion}
-use Rattle.batch_runs.proofs.TruthLemmas.{same_name, no_fault}
+use Rattle.batch_runs.proofs.TruthLemmas.{same_name, no_fault, truth}
+use Rattle.std.specs.List.{AllByRecursion}
+use Rattle.std.proofs.Common.{get_or, ⊎_elim}
+use Rattle.std.proofs.lemmas.Bool.{ne_eqb}
+use Rattle.serde_json.specs.Data.{Data, null, boolean, number, string, array, object}
+use Rattle.serde_json.specs.Written.{compact_text}
+use Rattle.reports.specs.Readings.{HasSmallNumbers, HasStatus, IsReport}
+use Rattle.reports.specs.Readings.IsReport.{of_outcome}
+use Rattle.reports.proofs.ReadLemmas.{report_read}
+use Rattle.reports.proofs.TextLemmas.{text_other}
+use Rattle.outcomes.specs.declared.outcome.Ending.{Ending}
+use Rattle.outcomes.specs.declared.outcome.Ending.TheVariants as kinds
+use Rattle.batch_lines.specs.Lines.{onto_first}
+use Rattle.batch_runs.specs.Batches.{Rules, AnswersKind, AnswersLine, AreRead, answers_text}
+use Rattle.batch_runs.specs.Batches.Answer.{answered}
+use Rattle.batch_runs.specs.Batches.AnswersEntry.{by_outcome}
+use Rattle.batch_runs.specs.Headline.{IsTrueOfBoard}
+use Rattle.batch_runs.specs.Meanings.{IsReply, SaysRefused}
+use Rattle.std.specs.Prelude.{◌<◌, ◌-◌, min, replicate}
+use Rattle.std.proofs.lemmas.Bool.{cases_lt, cases_eq}
+use Rattle.std.proofs.lemmas.List.{length-set, length-replicate}
+use Rattle.world_model.proofs.ChangeLemmas.{get_set_other, at_replicate}
+use Rattle.world_model.specs.declared.limits.TheConstants.{GREATEST_GRANT}
+use Rattle.world_model.specs.declared.steps.Refusal.TheVariants.{NoSuchWorker}
+use Rattle.world_model.specs.declared.steps.Step.TheVariants.{Draw, Grant}
+use Rattle.world_model.specs.BookSteps.{AtBook}
+use Rattle.world_model.specs.Openings.{Job, first_worker, idle_worker}
+use Rattle.world_model.specs.Steps.{Next}
+use Rattle.world_model.specs.Turns.{turn}
+use Rattle.world_model.specs.Workers.{WorkerState}
+use Rattle.world_model.specs.Worlds.{IsWorker}
+use Rattle.batch_runs.specs.Setups.{SetupModel, owner_by, task_of_setup}
+use Rattle.replay_runs.specs.Openings.{setup_jobs, ReplaysOpenAsSetUp}
+use Rattle.replay_runs.specs.Replays.{SaidStepsAreAnswered, UnsaidStepsAreRefused, PassedLinesAreSilent, SayTheirSteps, ReplayReportsAreTrue, RefusedBoardsLeaveTheRest}
 use Rattle.batch_runs.proofs.BatchLemmas.{AreFirst-read, held}
 
 -- ---- one reply more
@@ -551,3 +584,289 @@ pub early_begins : (jobs : Jobs) → EarlyReplaysBeginAnswers jobs
 early_begins jobs source sink Read input n id board known empty asks_it replays = loses jobs source sink input n id board known empty asks_it replays.0
 early_begins jobs source sink Write input n id board known empty asks_it replays = begins_replay jobs source sink input n id board known empty asks_it replays.0
 early_begins jobs source sink (Memory lacking) input n id board known empty asks_it replays = lacks_report jobs source sink input n id board known empty asks_it replays.0
+
+-- ---- the reply to one line among others
+
+steps_parts : (first more : List Reply) → steps_of (first ++ more) ≡ steps_of first ++ steps_of more
+steps_parts [] more = refl
+steps_parts (passed_over ∷ first) more = steps_parts first more
+steps_parts (no_step ∷ first) more = steps_parts first more
+steps_parts (taken step refusal ∷ first) more = ap (λ (made : List (Step × Option Refusal)). (step, refusal) ∷ made) (steps_parts first more)
+
+text_parts : (first more : List Reply) → replies_text (first ++ more) ≡ replies_text first ++ replies_text more
+text_parts [] more = refl
+text_parts (reply ∷ first) more = ap (λ (text : List ℕ). reply_text reply ++ text) (text_parts first more) ∙ sym (append_assoc (reply_text reply) (replies_text first) (replies_text more))
+
+-- a run goes through a world between its first steps and the others
+run_parts : (w u : WorldState) (made more : List (Step × Option Refusal)) → IsRun w (made ++ more) u → (v : WorldState) × IsRun w made v × IsRun v more u
+run_parts w u [] more run = (w, refl, run)
+run_parts w u (step ∷ made) more (middle, next, rest) = let parts = run_parts middle u made more rest in (parts.0, (middle, next, parts.1), parts.2)
+
+-- the replies to lines are those to the first, to one, and to the others
+record ArePartsOf (before after : List (List ℕ)) (line : List ℕ) (replies : List Reply) : Type 0 where
+  first : List Reply
+  reply : Reply
+  rest : List Reply
+  parts : replies ≡ first ++ reply ∷ rest
+  each : RepliesToEach before first
+  now : RepliesTo line reply
+  later : RepliesToEach after rest
+
+each_parts : (before after : List (List ℕ)) (line : List ℕ) (replies : List Reply) → RepliesToEach (before ++ line ∷ after) replies → ArePartsOf before after line replies
+each_parts [] after line [] never = absurd never
+each_parts [] after line (reply ∷ rest) each = record { first = []; reply = reply; rest = rest; parts = refl; each = tt; now = each.0; later = each.1 }
+each_parts (next ∷ before) after line [] never = absurd never
+each_parts (next ∷ before) after line (reply ∷ replies) each =
+    let parts = each_parts before after line replies each.1 in
+    record { first = reply ∷ parts.first; reply = parts.reply; rest = parts.rest; parts = ap (λ (all : List Reply). reply ∷ all) parts.parts; each = (each.0, parts.each); now = parts.now; later = parts.later }
+
+-- the line is replied to in a world that those before it reach
+record IsRepliedAt (world : Change WorldState) (before after : List (List ℕ)) (line : List ℕ) (replies : List Reply) : Type 0 where
+  first : List Reply
+  reply : Reply
+  rest : List Reply
+  reached : WorldState
+  left : WorldState
+  earlier : IsReplied (from_to world.before reached) before first
+  now : RepliesTo line reply
+  changes : Changes (from_to reached left) reply
+  later : IsReplied (from_to left world.after) after rest
+  text : replies_text replies ≡ replies_text first ++ (reply_text reply ++ replies_text rest)
+
+-- what a reply does, and the steps behind it
+run_reply : (v u : WorldState) (reply : Reply) (rest : List Reply) → IsRun v (steps_of (reply ∷ rest)) u → (left : WorldState) × Changes (from_to v left) reply × IsRun left (steps_of rest) u
+run_reply v u passed_over rest run = (v, refl, run)
+run_reply v u no_step rest run = (v, refl, run)
+run_reply v u (taken step refusal) rest (left, next, run) = (left, next, run)
+
+replied_at : (world : Change WorldState) (before after : List (List ℕ)) (line : List ℕ) (replies : List Reply) → IsReplied world (before ++ line ∷ after) replies → IsRepliedAt world before after line replies
+replied_at world before after line replies replied =
+    let parts = each_parts before after line replies replied.each in
+    let steps : steps_of replies ≡ steps_of parts.first ++ steps_of (parts.reply ∷ parts.rest) = ap steps_of parts.parts ∙ steps_parts parts.first (parts.reply ∷ parts.rest) in
+    let runs = run_parts world.before world.after (steps_of parts.first) (steps_of (parts.reply ∷ parts.rest)) (subst (λ (made : List (Step × Option Refusal)). IsRun world.before made world.after) steps replied.run) in
+    let now = run_reply runs.0 world.after parts.reply parts.rest runs.2 in
+    record {
+      first = parts.first;
+      reply = parts.reply;
+      rest = parts.rest;
+      reached = runs.0;
+      left = now.0;
+      earlier = record { each = parts.each; run = runs.1 };
+      now = parts.now;
+      changes = now.1;
+      later = record { each = parts.later; run = now.2 };
+      text = ap replies_text parts.parts ∙ text_parts parts.first (parts.reply ∷ parts.rest);
+    }
+
+-- the reply to a line that says a step is that a step was taken
+taken_is : (line : List ℕ) (step : Step) (reply : Reply) → line_kind_of line ≡ Within → TextSays (without_return line) step → RepliesTo line reply → (said : Step) × (refusal : Option Refusal) × (reply ≡ taken said refusal) × TextSays (without_return line) said
+taken_is line step reply within says is = by_reply reply (subst (λ (kind : LineKind). RepliesToKind kind (without_return line) reply) within is)
+  where
+    by_reply : (reply : Reply) → RepliesToText (without_return line) reply → (said : Step) × (refusal : Option Refusal) × (reply ≡ taken said refusal) × TextSays (without_return line) said
+    by_reply passed_over never = absurd never
+    by_reply no_step none = absurd (none step says)
+    by_reply (taken said refusal) text = (said, refusal, refl, text)
+
+pub steps_answered : SaidStepsAreAnswered
+steps_answered world before after line replies step says replied =
+    let at = replied_at world before after line replies replied in
+    let reply = taken_is line step at.reply says.within says.says at.now in
+    let next : Changes (from_to at.reached at.left) (taken reply.0 reply.1) = subst (λ (r : Reply). Changes (from_to at.reached at.left) r) reply.2 at.changes in
+    (at.first, at.rest, at.reached, at.left, reply.0, reply.1, record { within = says.within; says = reply.3 }, at.earlier, next, at.later, at.text ∙ ap (λ (r : Reply). replies_text at.first ++ (reply_text r ++ replies_text at.rest)) reply.2)
+
+-- the reply to a line that says none is that it says none
+unsaid_is : (line : List ℕ) (reply : Reply) → ¬ IsPassedOver line → ((step : Step) → line_kind_of line ≡ Within → ¬ TextSays (without_return line) step) → RepliesTo line reply → reply ≡ no_step
+unsaid_is line reply here none is = by_kind (line_kind_of line) refl
+  where
+    by_text : (reply : Reply) → line_kind_of line ≡ Within → RepliesToText (without_return line) reply → reply ≡ no_step
+    by_text passed_over within never = absurd never
+    by_text no_step within says = refl
+    by_text (taken step refusal) within says = absurd (none step within says)
+
+    by_kind : (kind : LineKind) → line_kind_of line ≡ kind → reply ≡ no_step
+    by_kind PassedOver over = absurd (here over)
+    by_kind TooLong long = subst (λ (kind : LineKind). RepliesToKind kind (without_return line) reply) long is
+    by_kind Within within = by_text reply within (subst (λ (kind : LineKind). RepliesToKind kind (without_return line) reply) within is)
+
+pub steps_refused : UnsaidStepsAreRefused
+steps_refused world before after line replies here none replied =
+    let at = replied_at world before after line replies replied in
+    let reply : at.reply ≡ no_step = unsaid_is line at.reply here none at.now in
+    let same : at.left ≡ at.reached = subst (λ (r : Reply). Changes (from_to at.reached at.left) r) reply at.changes in
+    (at.first, at.rest, at.reached, at.earlier, subst (λ (w : WorldState). IsReplied (from_to w world.after) after at.rest) same at.later, at.text ∙ ap (λ (r : Reply). replies_text at.first ++ (reply_text r ++ replies_text at.rest)) reply)
+
+pub passed_silent : PassedLinesAreSilent
+passed_silent world before after line replies over replied =
+    let at = replied_at world before after line replies replied in
+    let reply : at.reply ≡ passed_over = subst (λ (kind : LineKind). RepliesToKind kind (without_return line) at.reply) over at.now in
+    let same : at.left ≡ at.reached = subst (λ (r : Reply). Changes (from_to at.reached at.left) r) reply at.changes in
+    (at.first, at.rest, at.reached, at.earlier, subst (λ (w : WorldState). IsReplied (from_to w world.after) after at.rest) same at.later, at.text ∙ ap (λ (r : Reply). replies_text at.first ++ (reply_text r ++ replies_text at.rest)) reply)
+
+-- ---- the report at the end, and the status
+
+-- with one line more, replies are fine exactly where this line too is passed over or says a step
+fine_line : (line : List ℕ) (lines : List (List ℕ)) (reply : Reply) (replies : List Reply) → ((are_fine replies ≡ true) ↔ SayTheirSteps lines) → RepliesTo line reply → ((is_fine reply && are_fine replies) ≡ true) ↔ SayTheirSteps (line ∷ lines)
+fine_line line lines reply replies rest is = by_kind (line_kind_of line) refl
+  where
+    by_text : (reply : Reply) → line_kind_of line ≡ Within → RepliesToText (without_return line) reply → ((is_fine reply && are_fine replies) ≡ true) ↔ SayTheirSteps (line ∷ lines)
+    by_text passed_over within never = absurd never
+    by_text no_step within none = (
+      (λ fine. absurd (cc)),
+      (λ say. ⊎_elim (λ (over : IsPassedOver line). let both : PassedOver ≡ Within = sym over ∙ within in absurd (cc)) (λ (says : (step : Step) × (line_kind_of line ≡ Within) × TextSays (without_return line) step). absurd (none says.0 says.2)) say.0),
+    )
+    by_text (taken step refusal) within says = ((λ fine. (inr (step, within, says), rest.0 fine)), (λ say. rest.1 say.1))
+
+    fine_of : (reply : Reply) → reply ≡ passed_over → ((is_fine reply && are_fine replies) ≡ true) ↔ (are_fine replies ≡ true)
+    fine_of reply over = subst (λ (r : Reply). ((is_fine r && are_fine replies) ≡ true) ↔ (are_fine replies ≡ true)) (sym over) ((λ fine. fine), (λ fine. fine))
+
+    unfine_of : (reply : Reply) → reply ≡ no_step → ((is_fine reply && are_fine replies) ≡ true) → ⊥
+    unfine_of reply none fine = let never : false ≡ true = subst (λ (r : Reply). (is_fine r && are_fine replies) ≡ true) none fine in absurd (cc)
+
+    by_kind : (kind : LineKind) → line_kind_of line ≡ kind → ((is_fine reply && are_fine replies) ≡ true) ↔ SayTheirSteps (line ∷ lines)
+    by_kind PassedOver over =
+        let same = fine_of reply (subst (λ (kind : LineKind). RepliesToKind kind (without_return line) reply) over is) in
+        ((λ fine. (inl over, rest.0 (same.0 fine))), (λ say. same.1 (rest.1 say.1)))
+    by_kind TooLong long =
+        let none : reply ≡ no_step = subst (λ (kind : LineKind). RepliesToKind kind (without_return line) reply) long is in (
+          (λ fine. absurd (unfine_of reply none fine)),
+          (λ say. ⊎_elim (λ (over : IsPassedOver line). let both : PassedOver ≡ TooLong = sym over ∙ long in absurd (cc)) (λ (says : (step : Step) × (line_kind_of line ≡ Within) × TextSays (without_return line) step). let both : TooLong ≡ Within = sym long ∙ says.1 in absurd (cc)) say.0),
+        )
+    by_kind Within within = by_text reply within (subst (λ (kind : LineKind). RepliesToKind kind (without_return line) reply) within is)
+
+-- replies are fine exactly where each line is passed over or says a step
+fine_said : (lines : List (List ℕ)) (replies : List Reply) → RepliesToEach lines replies → (are_fine replies ≡ true) ↔ SayTheirSteps lines
+fine_said [] [] each = ((λ fine. tt), (λ say. refl))
+fine_said [] (reply ∷ replies) never = absurd never
+fine_said (line ∷ lines) [] never = absurd never
+fine_said (line ∷ lines) (reply ∷ replies) each = fine_line line lines reply replies (fine_said lines replies each.1) each.0
+
+abbrev text_in : Data → List ℕ
+text_in null = []
+text_in (boolean b) = []
+text_in (number n) = []
+text_in (string s) = s
+text_in (array ds) = []
+text_in (object ms) = []
+
+abbrev first_letter : Option Data → ℕ
+first_letter None = 0
+first_letter (Some d) = get_or (text_in d) 0 0
+
+-- the status tells of the report, and of whether each line said a step
+abbrev Settles : Data → Type 0
+Settles d = HasStatus d (codes "optimal") ⊎ HasStatus d (codes "unsolvable")
+
+status_told : (id : List ℕ) (fine : Bool) (ending : Ending) → (replay_status_of fine ending ≡ 0) ↔ ((fine ≡ true) × Settles (outcome_data id ending))
+status_told id true (kinds.Optimal cost plan) = ((λ zero. (refl, inl refl)), (λ both. refl))
+status_told id false (kinds.Optimal cost plan) = ((λ one. absurd (omega (arith, one))), (λ both. absurd (cc)))
+status_told id true (kinds.Unsolvable why) = ((λ zero. (refl, inr refl)), (λ both. refl))
+status_told id false (kinds.Unsolvable why) = ((λ one. absurd (omega (arith, one))), (λ both. absurd (cc)))
+status_told id fine (kinds.Bounded bound best cause) = (
+  (λ one. absurd (omega (arith, one))),
+  (λ both. ⊎_elim (λ (is : HasStatus (outcome_data id (kinds.Bounded bound best cause)) (codes "optimal")). let z = ap first_letter is in absurd (omega (arith, z))) (λ (is : HasStatus (outcome_data id (kinds.Bounded bound best cause)) (codes "unsolvable")). let z = ap first_letter is in absurd (omega (arith, z))) both.1),
+)
+
+status_either : (fine : Bool) (ending : Ending) → (replay_status_of fine ending ≡ 0) ⊎ (replay_status_of fine ending ≡ 1)
+status_either true (kinds.Optimal cost plan) = inl refl
+status_either false (kinds.Optimal cost plan) = inr refl
+status_either true (kinds.Unsolvable why) = inl refl
+status_either false (kinds.Unsolvable why) = inr refl
+status_either fine (kinds.Bounded bound best cause) = inr refl
+
+-- a report is the first line of its text, and is read as what it says
+no_feed_ends : (line : List ℕ) → AllByRecursion (λ b. b ≢ 10) line → lines_of (line ++ 10 ∷ []) ≡ line ∷ []
+no_feed_ends [] none = refl
+no_feed_ends (b ∷ bs) none = rw (ne_eqb b 10 none.0) (ap (onto_first b) (no_feed_ends bs none.1))
+
+report_reply : (d : Data) → IsReport d → IsReply (report_text d) 0 d
+report_reply d report = (compact_text d, ap (λ (ls : List (List ℕ)). slice_get ls 0) (no_feed_ends (compact_text d) (text_other d)), report_read d report)
+
+-- a board may be answered by what answers its task
+abbrev IfTrueEnding : Task → Option Ending → Type 0
+IfTrueEnding task None = ⊥
+IfTrueEnding task (Some ending) = EndAnswers task ending
+
+abbrev task_rules : Jobs → Rules
+task_rules jobs = record { grid = jobs.grid; task = λ b. (jobs.job b).task; allows = λ b ending. IfTrueEnding (jobs.job b).task ending }
+
+report_true : (jobs : Jobs) (line id : List ℕ) (board : BoardModel) (ending : Ending) → Names jobs.grid line id board → EndAnswers (jobs.job board).task ending → HasSmallNumbers ending → IsTrueOfBoard (jobs.job board).task id (outcome_data id ending)
+report_true jobs line id board ending names answers small =
+    let rules = task_rules jobs in
+    let d = outcome_data id ending in
+    let is : AnswersLine rules line (answered id ending) = subst (λ (kind : LineKind). AnswersKind rules kind (without_return line) (answered id ending)) (sym names.0) (by_outcome id board ending names.1 answers small) in
+    let tells = truth rules (λ b e allowed. allowed) (line ∷ []) (answered id ending ∷ []) (omega arith) (is, tt) in
+    let asked = first_question 1 [] [] line (λ k d k_in. absurd (omega (arith, k_in))) (named_here jobs.grid line id board names) in
+    let question : IsQuestion (line ∷ []) 0 asked.0 line = ap (λ (qs : List (ℕ × List ℕ)). slice_get qs 0) asked.2 in
+    let text : answers_text 1 (answered id ending ∷ []) ≡ report_text d = append-nil (report_text d) in
+    let reply : IsReply (answers_text 1 (answered id ending ∷ [])) 0 d = subst (λ (output : List ℕ). IsReply output 0 d) (sym text) (report_reply d (of_outcome id ending small)) in
+    ⊎_elim (λ (it : IsTrueOfBoard (jobs.job board).task id d). it) (λ (never : SaysRefused d (codes "V3") asked.0 × ⊥). absurd never.1) (tells.named 0 asked.0 line id board d question names reply)
+
+pub reports_true : (jobs : Jobs) → ReplayReportsAreTrue jobs
+reports_true jobs lines n id board output status (line, question, names) answers =
+    let ending = without_rows answers.outcome in
+    let d = outcome_data id ending in
+    let said = fine_said (drop n lines) answers.replies answers.replied.each in
+    let told = status_told id (are_fine answers.replies) ending in (
+      replies_text answers.replies,
+      compact_text d,
+      d,
+      answers.text,
+      report_read d (of_outcome id ending answers.given.1),
+      report_true jobs line id board ending names answers.answers answers.given.1,
+      ((λ zero. let both = told.0 (sym answers.told ∙ zero) in (said.0 both.0, both.1)), (λ both. answers.told ∙ told.1 (said.1 both.0, both.1))),
+      subst (λ (s : ℕ). (s ≡ 0) ⊎ (s ≡ 1)) (sym answers.told) (status_either (are_fine answers.replies) ending),
+    )
+
+-- ---- what is taken
+
+pub rest_left : (jobs : Jobs) → RefusedBoardsLeaveTheRest jobs
+rest_left jobs source input rest output known left refuses =
+    let lines = refuses.passed ++ refuses.line ∷ [] in
+    let read : lines_of input ≡ lines ++ lines_of rest = subst (λ (now : Option (List ℕ)). AreRead (Some input) now lines) left (subst (λ (before : Option (List ℕ)). AreRead before source.after.left lines) known refuses.first.read) in
+    (refuses.passed, refuses.line, read ∙ append_assoc refuses.passed (refuses.line ∷ []) (lines_of rest), refuses.first.before, refuses.first.here)
+
+-- ---- the replays of a setup
+
+-- a worker that isn't the board's owner begins without credit
+no_purse : (job : Job) (via : Move) (i : ℕ) (worker : WorkerState) → IsWorker (opening job via) i worker → i ≢ job.owner job.task.start → worker.purse ≡ 0
+no_purse job via i worker there other =
+    let idle = idle_worker job.count in
+    let first = first_worker job.count job.task via in
+    ap (λ (x : WorkerState). x.purse) (at_replicate job.count i idle worker (sym (get_set_other (replicate job.count idle) (job.owner job.task.start) i first other) ∙ there))
+
+module _ (setup : SetupModel) (board : BoardModel) (via : Move) where
+  abbrev opened : WorldState
+  opened = opening ((setup_jobs setup).job board) via
+
+  workers_are : length opened.workers ≡ setup.workers
+  workers_are =
+      let idle = idle_worker setup.workers in
+      length-set (replicate setup.workers idle) (owner_by setup.spread setup.workers board) (first_worker setup.workers (task_of_setup setup board) via) ∙ length-replicate setup.workers idle
+
+  beyond_refused : (i : ℕ) (refusal : Option Refusal) (w : WorldState) → setup.workers ≤ i → Next (Draw i) (turn opened refusal w) → refusal ≡ Some NoSuchWorker
+  beyond_refused i refusal w beyond (inl (none, (is, same))) = is
+  beyond_refused i refusal w beyond (inr (there, step)) = let count = workers_are in absurd (there (omega (arith, count, beyond)))
+
+  owner_draws : (i : ℕ) (w : WorldState) → Next (Draw i) (turn opened None w) → (i < setup.workers) × (i ≡ owner_by setup.spread setup.workers board)
+  owner_draws i w (inl (none, (is, same))) = absurd (cc)
+  owner_draws i w (inr (there, (worker, at, here, inl (stopped, (is, same)), after))) = absurd (cc)
+  owner_draws i w (inr (there, (worker, at, here, inr (going, inl (empty, (is, same))), after))) = absurd (cc)
+  owner_draws i w (inr (there, (worker, at, here, inr (going, inr (some, rest)), after))) =
+      let count = workers_are in (
+        ⊎_elim (λ (low : i < setup.workers). low) (λ (high : setup.workers ≤ i). absurd (there (omega (arith, count, high)))) (cases_lt i setup.workers),
+        ⊎_elim (λ (same : i ≡ owner_by setup.spread setup.workers board). same) (λ (other : i ≢ owner_by setup.spread setup.workers board). absurd (some (no_purse ((setup_jobs setup).job board) via i worker here other))) (cases_eq i (owner_by setup.spread setup.workers board)),
+      )
+
+  limit_grants : (i : ℕ) (w : WorldState) → Next (Grant i) (turn opened None w) → w.book.granted ≡ min GREATEST_GRANT setup.limit
+  limit_grants i w (inl (none, (is, same))) = absurd (cc)
+  limit_grants i w (inr (there, (worker, at, here, inl (stopped, (is, same)), after))) = absurd (cc)
+  limit_grants i w (inr (there, (worker, at, here, inr (going, inl (nothing, (is, same))), after))) = absurd (cc)
+  limit_grants i w (inr (there, (worker, at, here, inr (going, inr (some, inl (allowed, (is, same)))), after))) = absurd (cc)
+  limit_grants i w (inr (there, (worker, at, here, inr (going, inr (some, inr (used, inl (full, (is, same))))), after))) = absurd (cc)
+  limit_grants i w (inr (there, (worker, at, here, inr (going, inr (some, inr (used, inr (more, (is, becomes))))), after))) =
+      let left : setup.limit - 0 ≡ setup.limit = omega arith in
+      let none : 0 + min GREATEST_GRANT (setup.limit - 0) ≡ min GREATEST_GRANT (setup.limit - 0) = omega arith in
+      ap (λ (x : WorldState). x.book.granted) after ∙ ap (λ (x : AtBook). x.book.granted) becomes ∙ none ∙ ap (λ (k : ℕ). min GREATEST_GRANT k) left
+
+pub set_up : ReplaysOpenAsSetUp
+set_up setup = record { workers = beyond_refused setup; draws = owner_draws setup; grants = limit_grants setup }

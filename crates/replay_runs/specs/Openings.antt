@@ -1,8 +1,17 @@
 -- What the runs of a setup's boards rest on.
-use Rattle.std.specs.Prelude.{ℕ}
+use Rattle.std.specs.Prelude.{ℕ, ◌≡◌, ◌≤◌, ◌<◌, min, Option, None, Some}
+use Rattle.board.specs.declared.moves.Move.{Move}
 use Rattle.board.specs.Boards.{BoardModel}
 use Rattle.memory.specs.declared.OutOfMemory.{OutOfMemory}
 use Rattle.batch_runs.specs.Setups.{SetupModel, owner_by, task_of_setup}
+use Rattle.world_model.specs.declared.limits.TheConstants.{GREATEST_GRANT}
+use Rattle.world_model.specs.declared.steps.Refusal.{Refusal}
+use Rattle.world_model.specs.declared.steps.Refusal.TheVariants.{NoSuchWorker}
+use Rattle.world_model.specs.declared.steps.Step.TheVariants.{Draw, Grant}
+use Rattle.world_model.specs.Openings.{opening}
+use Rattle.world_model.specs.Steps.{Next}
+use Rattle.world_model.specs.Turns.{turn}
+use Rattle.world_model.specs.Worlds.{WorldState}
 use Rattle.replay_runs.specs.Replays.{Jobs}
 
 -- The jobs of a setup's boards, where boards have these owners among each number of workers. Memory is refused where a growth was.
@@ -21,3 +30,25 @@ jobs_by owner_among setup = record {
 -- the same by the owners that the setup names
 abbrev pub setup_jobs : SetupModel → Jobs
 setup_jobs setup = jobs_by (owner_by setup.spread) setup
+
+-- ---- laws: the contracts of functions without effect
+
+-- In the world that a board of the setup opens with, a step of a worker that the setup doesn't have is refused. Only the board's owner draws
+-- credit there, by the setup's spread over its workers. What is granted there first is as much as the setup's limit leaves.
+pub record OpensAsSetUp (setup : SetupModel) : Type 0 where
+  pub workers :
+      (board : BoardModel) (via : Move) (i : ℕ) (refusal : Option Refusal) (w : WorldState)
+      → setup.workers ≤ i
+      → Next (Draw i) (turn (opening ((setup_jobs setup).job board) via) refusal w)
+      → refusal ≡ Some NoSuchWorker
+  pub draws :
+      (board : BoardModel) (via : Move) (i : ℕ) (w : WorldState)
+      → Next (Draw i) (turn (opening ((setup_jobs setup).job board) via) None w)
+      → (i < setup.workers) × (i ≡ owner_by setup.spread setup.workers board)
+  pub grants :
+      (board : BoardModel) (via : Move) (i : ℕ) (w : WorldState)
+      → Next (Grant i) (turn (opening ((setup_jobs setup).job board) via) None w)
+      → w.book.granted ≡ min GREATEST_GRANT setup.limit
+
+abbrev pub ReplaysOpenAsSetUp : Type 0
+ReplaysOpenAsSetUp = (setup : SetupModel) → OpensAsSetUp setup

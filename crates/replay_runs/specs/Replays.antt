@@ -1,5 +1,5 @@
 -- What is written for a replay: a board line, and the lines of steps behind it.
-use Rattle.std.specs.Prelude.{ℕ, ◌≡◌, ◌≢◌, ◌≤◌, ◌⊎◌, ◌+◌, true, false, List, [], ◌∷◌, ◌++◌, length, drop, Some, Result, Ok, Err, All, codes}
+use Rattle.std.specs.Prelude.{ℕ, ◌≡◌, ◌≢◌, ◌≤◌, ◌⊎◌, ◌↔◌, ◌+◌, true, false, List, [], ◌∷◌, ◌++◌, length, drop, Option, Some, Result, Ok, Err, All, codes, ⊤}
 use Rattle.board.specs.declared.moves.Move.{Move}
 use Rattle.board.specs.Shapes.{ShapeModel}
 use Rattle.board.specs.Boards.{BoardModel}
@@ -12,15 +12,23 @@ use Rattle.batch_lines.specs.declared.lines.LineKind.TheVariants.{Within}
 use Rattle.outcomes.specs.Outcomes.{Answers}
 use Rattle.outcomes.specs.Endings.{without_rows, EndAnswers}
 use Rattle.outcomes.specs.declared.outcome.Outcome.{Outcome}
+use Rattle.serde_json.specs.Data.{Data}
+use Rattle.reports.specs.Readings.{Reads, HasStatus}
 use Rattle.reports.specs.Reports.{outcome_data, refused_data, report_text}
+use Rattle.step_lines.specs.Answers.{answer_word}
+use Rattle.world_model.specs.declared.steps.Refusal.{Refusal}
+use Rattle.world_model.specs.declared.steps.Step.{Step}
+use Rattle.world_model.specs.Steps.{Next}
+use Rattle.world_model.specs.Turns.{turn}
 use Rattle.world_model.specs.Openings.{Job, IsJob, opening}
 use Rattle.world_model.specs.Worlds.{WorldState}
 use Rattle.batch_runs.specs.Batches.{AreAll, AreFirst, LosesLine, IsReadable, HasFailed, KeepsFailure}
+use Rattle.batch_runs.specs.Headline.{IsTrueOfBoard}
 use Rattle.batch_runs.specs.Meanings.{questions, IsQuestion, Names, HasFault}
 use Rattle.batch_runs.specs.declared.faults.LinesFault.{LinesFault}
 use Rattle.batch_runs.specs.declared.faults.LinesFault.TheVariants.{Read, Write, Memory}
 use Rattle.batch_runs.specs.FirstLines.{IsPassedOver, FindsFirst}
-use Rattle.replay_runs.specs.Replies.{Reply, replies_text, are_fine, replay_status_of}
+use Rattle.replay_runs.specs.Replies.{Reply, TextSays, replies_text, are_fine, replay_status_of}
 use Rattle.replay_runs.specs.Stepping.{IsReplied, IsReportOf, output_of}
 
 -- the shape of the boards, the job that a board starts, and when memory is refused before its first step
@@ -256,3 +264,72 @@ EarlyReplaysBeginAnswers jobs =
     → AsksFirst jobs (lines_of input) n id board
     → Replays jobs source sink (Err fault)
     → BeginsAnswer jobs sink (lines_of input) n id board
+
+-- ---- laws of the replies to lines, whatever the board
+
+-- the line is to be read, and says this step
+pub record IsStepLine (line : List ℕ) (step : Step) : Type 0 where
+  pub within : line_kind_of line ≡ Within
+  pub says : TextSays (without_return line) step
+
+-- Where a line among others says a step, what is written has this line's answer between those to the lines before it and behind it. It is the
+-- word of what the step answers in the world that the lines before it reach, and the lines behind it go on from the world that the step leaves.
+abbrev pub SaidStepsAreAnswered : Type 0
+SaidStepsAreAnswered =
+    (world : Change WorldState) (before after : List (List ℕ)) (line : List ℕ) (replies : List Reply) (step : Step)
+    → IsStepLine line step
+    → IsReplied world (before ++ line ∷ after) replies
+    → (first rest : List Reply) × (reached left : WorldState) × (said : Step) × (refusal : Option Refusal)
+    × IsStepLine line said
+    × IsReplied (from_to world.before reached) before first
+    × Next said (turn reached refusal left)
+    × IsReplied (from_to left world.after) after rest
+    × (replies_text replies ≡ replies_text first ++ ((answer_word refusal ++ 10 ∷ []) ++ replies_text rest))
+
+-- where a line says no step, B4 is written for it, and it leaves the world as it was
+abbrev pub UnsaidStepsAreRefused : Type 0
+UnsaidStepsAreRefused =
+    (world : Change WorldState) (before after : List (List ℕ)) (line : List ℕ) (replies : List Reply)
+    → ¬ IsPassedOver line
+    → ((step : Step) → line_kind_of line ≡ Within → ¬ TextSays (without_return line) step)
+    → IsReplied world (before ++ line ∷ after) replies
+    → (first rest : List Reply) × (reached : WorldState)
+    × IsReplied (from_to world.before reached) before first
+    × IsReplied (from_to reached world.after) after rest
+    × (replies_text replies ≡ replies_text first ++ ((codes "B4" ++ 10 ∷ []) ++ replies_text rest))
+
+-- where a line is passed over, nothing is written for it, and it leaves the world as it was
+abbrev pub PassedLinesAreSilent : Type 0
+PassedLinesAreSilent =
+    (world : Change WorldState) (before after : List (List ℕ)) (line : List ℕ) (replies : List Reply)
+    → IsPassedOver line
+    → IsReplied world (before ++ line ∷ after) replies
+    → (first rest : List Reply) × (reached : WorldState)
+    × IsReplied (from_to world.before reached) before first
+    × IsReplied (from_to reached world.after) after rest
+    × (replies_text replies ≡ replies_text first ++ replies_text rest)
+
+-- each of the lines is passed over, or says a step
+abbrev pub SayTheirSteps : List (List ℕ) → Type 0
+SayTheirSteps [] = ⊤
+SayTheirSteps (line ∷ lines) = (IsPassedOver line ⊎ ((step : Step) × (line_kind_of line ≡ Within) × TextSays (without_return line) step)) × SayTheirSteps lines
+
+-- The last line of what answers the board that the first asking line names is read as JSON, and what it says of the board is true. The status is
+-- 0 where it says a least plan or that there is none, and each line behind the board line is passed over or says a step. Else it is 1.
+abbrev pub ReplayReportsAreTrue : Jobs → Type 0
+ReplayReportsAreTrue jobs =
+    (lines : List (List ℕ)) (n : ℕ) (id : List ℕ) (board : BoardModel) (output : List ℕ) (status : ℕ)
+    → AsksFirst jobs lines n id board
+    → AnswersNamedBoard jobs lines n id board output status
+    → (replies line : List ℕ) × (d : Data) × (output ≡ replies ++ (line ++ 10 ∷ [])) × Reads line d × IsTrueOfBoard (jobs.job board).task id d
+    × ((status ≡ 0) ↔ (SayTheirSteps (drop n lines) × (HasStatus d (codes "optimal") ⊎ HasStatus d (codes "unsolvable"))))
+    × ((status ≡ 0) ⊎ (status ≡ 1))
+
+-- where the first asking line of a known input is refused, no line behind it is taken
+abbrev pub RefusedBoardsLeaveTheRest : Jobs → Type 0
+RefusedBoardsLeaveTheRest jobs =
+    (source : Change SourceState) (input rest output : List ℕ)
+    → source.before.left ≡ Some input
+    → source.after.left ≡ Some rest
+    → RefusesFirst jobs source output
+    → (passed : List (List ℕ)) × (line : List ℕ) × (lines_of input ≡ passed ++ line ∷ lines_of rest) × All IsPassedOver passed × (¬ IsPassedOver line)

@@ -3,7 +3,11 @@
 ghost use Rattle.replay_runs.specs.Replays.{PlaysNamedBoards, RefusesFirstLines};
 ghost use Rattle.replay_runs.specs.Replays.{FailedReplayWritesAreTold, FailedReplayReadsAreTold};
 ghost use Rattle.replay_runs.specs.Replays.{ReplayOutputsAreAnswers, EarlyReplaysBeginAnswers};
+ghost use Rattle.replay_runs.specs.Replays.{SaidStepsAreAnswered, UnsaidStepsAreRefused};
+ghost use Rattle.replay_runs.specs.Replays.{PassedLinesAreSilent, ReplayReportsAreTrue};
+ghost use Rattle.replay_runs.specs.Replays.{RefusedBoardsLeaveTheRest};
 ghost use Rattle.replay_runs.specs.Replies.{StepsAreTaken};
+ghost use Rattle.replay_runs.specs.Openings.{ReplaysOpenAsSetUp};
 
 use crate::board_line::Opener;
 use crate::stepping::Run;
@@ -61,3 +65,37 @@ pub fn early_replays_begin_answers<R: Run, O: Opener<R>>(opener: &O)
 {
     let _ = opener;
 }
+
+/// Lines are replied to one by one, in their order. A line that says a step has what this step
+/// answers in the world that the lines before it reach, and the lines behind it go on from what the
+/// step leaves.
+#[tactic(auto, using(crate::proofs::ReadLemmas::steps_answered))]
+pub fn said_steps_are_answered()
+    ensures { SaidStepsAreAnswered }
+{}
+
+/// A line that says no step has `B4`, and nothing is written for one that is passed over. Both leave
+/// the world as it was.
+#[tactic(auto, using(crate::proofs::ReadLemmas::steps_refused, crate::proofs::ReadLemmas::passed_silent))]
+pub fn other_lines_take_no_step()
+    ensures unsaid { UnsaidStepsAreRefused }
+    ensures passed { PassedLinesAreSilent }
+{}
+
+/// The last line of what answers a board is read as JSON and says what is true of the board. The
+/// status is 0 where it says a least plan or that there is none, and each line behind the board line
+/// says a step or is passed over. No line is taken behind a board line that is refused.
+#[tactic(auto, using(crate::proofs::ReadLemmas::reports_true, crate::proofs::ReadLemmas::rest_left))]
+pub fn replay_reports_are_true<R: Run, O: Opener<R>>(opener: &O)
+    ensures reports { ReplayReportsAreTrue (O.jobs opener.now) }
+    ensures refused { RefusedBoardsLeaveTheRest (O.jobs opener.now) }
+{
+    let _ = opener;
+}
+
+/// A replay of a setup opens with the setup's workers, spread and limit: a step of another worker is
+/// refused, only the board's owner draws credit, and no more than the limit is granted.
+#[tactic(auto, using(crate::proofs::ReadLemmas::set_up))]
+pub fn replays_open_as_set_up()
+    ensures { ReplaysOpenAsSetUp }
+{}
