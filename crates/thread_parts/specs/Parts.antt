@@ -10,7 +10,7 @@ use Rattle.worker_core.specs.Roles.{IsGuided, guide_of}
 use Rattle.worker_core.specs.Workers.{state_of}
 use Rattle.hda_run.specs.Jobs.{JobModel, task_in}
 use Rattle.thread_parts.specs.declared.part.Part.{Part}
-use Rattle.message_ledger.specs.Spending.{AllowanceModel, spent}
+use Rattle.message_ledger.specs.Spending.{AllowanceModel}
 
 -- What the steps of a part leave as it is: what is to be solved, how boards are owned, which worker it is, and which rings it has the
 -- ends of.
@@ -40,6 +40,10 @@ module _ {S C D E K G : Type 0} where
   abbrev pub role_of_part : (S → ℕ → BoardModel → ℕ) → ℕ → Part S C D E K G → Role
   role_of_part owner_of n part = role_by (task_in part.job.now) (owner_of part.owners.now) n part.me
 
+  -- what went by the rings of the one part went by those of the other
+  abbrev pub HaveSameLanes : Part S C D E K G → Part S C D E K G → Type 0
+  HaveSameLanes part part' = (sent_lanes part'.outs.items ≡ sent_lanes part.outs.items) × (received_lanes part'.ins.items ≡ received_lanes part.ins.items)
+
   -- What a part of n keeps, whatever the others do. Its worker's lists are guided to the goal.
   pub record IsSoundPart (owner_of : S → ℕ → BoardModel → ℕ) (n : ℕ) (part : Part S C D E K G) : Type 0 where
     pub role : IsRole n (role_of_part owner_of n part)
@@ -57,6 +61,10 @@ module _ {S C D E K G : Type 0} where
     pub holds : IsSoundPart owner_of n new
     pub kept : IsFaceKept old new
 
--- the worker with this purse and allowance
-abbrev pub with_means : ℕ → AllowanceModel → WorkerState → WorkerState
-with_means purse allowance worker = record worker { purse = purse; allowance = allowance.left; expansions = spent allowance }
+-- the allowance by which nothing was granted yet: so nothing of it is left, and nothing was spent
+abbrev pub fresh_allowance : AllowanceModel
+fresh_allowance = record { granted = 0; left = 0 }
+
+-- the worker with this purse
+abbrev pub with_purse : ℕ → WorkerState → WorkerState
+with_purse purse worker = record worker { purse = purse }

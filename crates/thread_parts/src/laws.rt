@@ -3,9 +3,25 @@
 ghost use Rattle.world_model.specs.declared.steps.HaltCause.{HaltCause};
 ghost use Rattle.world_model.specs.BookSteps.{AnnounceStep, GrantStep, HaltStep};
 ghost use Rattle.world_model.specs.Workers.{Role};
+ghost use Rattle.thread_parts.specs.Parts.{ChangesItsWorker, HaveSameLanes};
 ghost use Rattle.thread_parts.specs.Steps.{SentIsSent, DeliveredIsReceived};
 ghost use Rattle.thread_parts.specs.Steps.{RefusedPacketsChangeNothing};
 ghost use Rattle.thread_parts.specs.Steps.{WithAPurseItIsTheStep, BarredStepsChangeNothing};
+
+use crate::part::Part;
+use message_ledger::Tokens;
+use owners::Spread;
+
+/// A step that changes the worker of a part alone sends nothing by its rings, and takes nothing out
+/// of them.
+#[tactic(auto, using(crate::proofs::PartLemmas::lanes_left))]
+pub fn steps_of_workers_leave_the_rings<S: Spread, C: Tokens>(
+    old: &Part<'_, S, C>,
+    new: &Part<'_, S, C>,
+)
+    ensures { ChangesItsWorker S.owner_of C.workers old.now new.now
+        → HaveSameLanes old.now new.now }
+{}
 
 /// A packet that a ring takes is sent, and one that it gives is received. What it refuses changes
 /// nothing.

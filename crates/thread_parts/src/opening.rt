@@ -6,7 +6,7 @@ ghost use Rattle.worker_core.specs.Roles.{IsGuided, guide_of};
 ghost use Rattle.rings.specs.Rings.{out_rings, in_rings, sent_lanes, received_lanes};
 ghost use Rattle.hda_run.specs.Jobs.{task_in};
 ghost use Rattle.worker_core.specs.Workers.{state_of};
-ghost use Rattle.thread_parts.specs.Parts.{with_means};
+ghost use Rattle.thread_parts.specs.Parts.{fresh_allowance, with_purse};
 ghost use Rattle.world_model.specs.Openings.{idle_worker, first_worker};
 ghost use Rattle.thread_parts.specs.Parts.{face};
 
@@ -25,11 +25,13 @@ use worker_core::Worker;
 use worker_core::laws::tasks_have_guides;
 use world_model::Item;
 
-/// What a worker begins with: its part of the credit, and what it may expand.
+/// What a worker begins with: its part of the credit, and an allowance by which nothing was granted
+/// yet.
 #[derive(Drop)]
 pub struct Means<C: Counting> {
     pub purse: Purse<C>,
     pub allowance: Allowance<C>,
+    pub ghost fresh: { allowance ≡ fresh_allowance },
 }
 
 /// The part of worker `me` with which a run begins, over rings by which nothing went yet. The
@@ -64,7 +66,8 @@ pub fn open_part<'a, S: Spread, C: Tokens>(
     }))
 }
 
-// Worker `me`, which knows the start if it owns it.
+// Worker `me`, which knows the start if it owns it. It differs from a worker of the opening world
+// in its purse alone: nothing was granted to it, and it has expanded nothing.
 fn open_worker<S: Spread, C: Counting>(
     alloc: Global,
     search: &Search<'_, S>,
@@ -74,11 +77,11 @@ fn open_worker<S: Spread, C: Counting>(
     requires { me < search.now.workers }
     ensures first { S.owner_of search.now.owners.now search.now.workers
         search.now.job.start ≡ me → IfOk result (λ worker. (via : Move) × (state_of worker
-        ≡ with_means means.purse means.allowance
+        ≡ with_purse means.purse
         (first_worker search.now.workers (task_in search.now.job) via))) }
     ensures idle { S.owner_of search.now.owners.now search.now.workers
         search.now.job.start ≢ me → IfOk result (λ worker. state_of worker
-        ≡ with_means means.purse means.allowance (idle_worker search.now.workers)) }
+        ≡ with_purse means.purse (idle_worker search.now.workers)) }
     ensures guided { IfOk result (λ worker. IsGuided (task_in search.now.job)
         (guide_of (task_in search.now.job)) worker.lists) }
 {

@@ -3,5 +3,5 @@ use Rattle.thread_parts.proofs.opening.open_part.Goals as goal
 
 pub new-requires-after_bounds : goal.new-requires-after_bounds
 new-requires-after_bounds g c κs within =
-    opens g.S.Spread.owner_of g.met.S.Spread.owners_are_workers _ c.args.search.now.workers g.C.Tokens.workers c.args.means.purse c.args.means.allowance c.requires.count c.openings_are_kept.ensures c.goal.ensures.task c.args.search.now.count.1 c.requires.there
+    opens g.S.Spread.owner_of g.met.S.Spread.owners_are_workers _ c.args.search.now.workers g.C.Tokens.workers c.args.means.purse c.requires.count c.openings_are_kept.ensures c.goal.ensures.task c.args.search.now.count.1 c.requires.there
     c.requires.sent c.requires.received c.requires.purse c.in_ok-worker.ensures.first c.in_ok-worker.ensures.idle c.in_ok-worker.ensures.guided
