@@ -37,7 +37,7 @@ use Rattle.hda_run.specs.Jobs.{JobModel, context_in, task_in}
 use Rattle.thread_parts.specs.declared.part.Part.{Part}
 use Rattle.thread_parts.specs.Parts.{ChangesItsWorker, HaveSameLanes, face_of, IsSoundPart, IsFaceKept, part_state, role_of_part}
 use Rattle.thread_parts.specs.Steps.{SendByRing, DeliverByRing, WithPurse, IsBarred}
-use Rattle.thread_parts.specs.Parts.{fresh_allowance, with_purse}
+use Rattle.thread_parts.specs.Parts.{fresh_allowance, begun_with}
 use Rattle.std.specs.Vec.{with_item}
 use Rattle.std.proofs.Math.Seq.{map-set_same}
 use Rattle.std.proofs.lemmas.Option.{get_or_from_slice_get}
@@ -142,22 +142,22 @@ met task item free board =
     ap (λ (found : Option Known). if is_news found item.cost then map.insert unknown (search_key item.board) (record { cost = item.cost; expanded = false; via = item.via }) else unknown) (map.get-empty nat_cmp (search_key item.board))
     ∙ (λ t. map.insert unknown (search_key (board t)) (record { cost = free t; expanded = false; via = item.via }))
 
--- a worker to which nothing was granted begins as an idle one, but for its purse
-pub idle_is : (n purse : ℕ) (allowance : AllowanceModel) (worker : WorkerState) → allowance ≡ fresh_allowance → worker ≡ record (idle_worker n) { purse = purse; allowance = allowance.left; expansions = spent allowance } → worker ≡ with_purse purse (idle_worker n)
+-- a worker to which nothing was granted begins as an idle one that has a purse
+pub idle_is : (n purse : ℕ) (allowance : AllowanceModel) (worker : WorkerState) → allowance ≡ fresh_allowance → worker ≡ record (idle_worker n) { purse = purse; allowance = allowance.left; expansions = spent allowance } → worker ≡ begun_with purse (idle_worker n)
 idle_is n purse allowance worker fresh is = is ∙ (λ t. record (idle_worker n) { purse = purse; allowance = (fresh t).left; expansions = spent (fresh t) })
 
 -- so it is the worker that begins
-pub first_is : (n : ℕ) (task : Task) (purse : ℕ) (worker state : WorkerState) (item : Item) → item.cost ≡ 0 → item.board ≡ task.start → worker ≡ with_purse purse (idle_worker n) → state ≡ record worker { known = relaxation worker.known item } → state ≡ with_purse purse (first_worker n task item.via)
+pub first_is : (n : ℕ) (task : Task) (purse : ℕ) (worker state : WorkerState) (item : Item) → item.cost ≡ 0 → item.board ≡ task.start → worker ≡ begun_with purse (idle_worker n) → state ≡ record worker { known = relaxation worker.known item } → state ≡ begun_with purse (first_worker n task item.via)
 first_is n task purse worker state item free board begun is =
     is
     ∙ (λ t. record (begun t) { known = relaxation (begun t).known item })
-    ∙ (λ t. with_purse purse (record (idle_worker n) { known = met task item free board t }))
+    ∙ (λ t. begun_with purse (record (idle_worker n) { known = met task item free board t }))
 
 -- ---- what the part keeps
 
 -- with another purse it keeps that; only an empty purse asks for a worker at rest
-pub kept_with_purse : (n : ℕ) (role : Role) (part : PartState) (purse : ℕ) → (purse ≡ 0 → part.worker.purse ≡ 0) → Keeps n role part → Keeps n role (part_with_worker part (with_purse purse part.worker))
-kept_with_purse n role part purse still keeps = record {
+pub kept_begun_with : (n : ℕ) (role : Role) (part : PartState) (purse : ℕ) → (purse ≡ 0 → part.worker.purse ≡ 0) → Keeps n role part → Keeps n role (part_with_worker part (begun_with purse part.worker))
+kept_begun_with n role part purse still keeps = record {
   shaped = record { known = keeps.shaped.known; held = keeps.shaped.held; lists = keeps.shaped.lists; unsent = keeps.shaped.unsent };
   few_held = keeps.few_held;
   ends = keeps.ends;
@@ -189,21 +189,21 @@ pub begins : {S : Type 0} (owner_of : S → ℕ → BoardModel → ℕ) (owners 
     → part.sent ≡ replicate n []
     → part.received ≡ replicate n []
     → (owner_of owners n task.start ≡ me → 0 < purse)
-    → (owner_of owners n task.start ≡ me → (via : Move) × (part.worker ≡ with_purse purse (first_worker n task via)))
-    → (owner_of owners n task.start ≢ me → part.worker ≡ with_purse purse (idle_worker n))
+    → (owner_of owners n task.start ≡ me → (via : Move) × (part.worker ≡ begun_with purse (first_worker n task via)))
+    → (owner_of owners n task.start ≢ me → part.worker ≡ begun_with purse (idle_worker n))
     → Keeps n (role_by task (owner_of owners) n me) part
 begins owner_of owners task n me purse part law is sent received some first idle = elim (eqb_tells (owner_of owners n task.start) me) [
   | inl own ↦ (
       let via = (first own.1).0 in
       let opened = opening_part n (first_worker n task via) in
       let role = role_by task (owner_of owners) n me in
-      let same : part_with_worker opened (with_purse purse opened.worker) ≡ part = λ t. record { worker = sym (first own.1).1 t; sent = sym sent t; received = sym received t } in
-      subst (Keeps n role) same (kept_with_purse n role opened purse (λ none. let rich = some own.1 in absurd (omega (arith, rich, none))) ((law n role is).1 via own.1)))
+      let same : part_with_worker opened (begun_with purse opened.worker) ≡ part = λ t. record { worker = sym (first own.1).1 t; sent = sym sent t; received = sym received t } in
+      subst (Keeps n role) same (kept_begun_with n role opened purse (λ none. let rich = some own.1 in absurd (omega (arith, rich, none))) ((law n role is).1 via own.1)))
   | inr foreign ↦ (
       let opened = opening_part n (idle_worker n) in
       let role = role_by task (owner_of owners) n me in
-      let same : part_with_worker opened (with_purse purse opened.worker) ≡ part = λ t. record { worker = sym (idle foreign.1) t; sent = sym sent t; received = sym received t } in
-      subst (Keeps n role) same (kept_with_purse n role opened purse (λ none. refl) ((law n role is).0 foreign.1)))
+      let same : part_with_worker opened (begun_with purse opened.worker) ≡ part = λ t. record { worker = sym (idle foreign.1) t; sent = sym sent t; received = sym received t } in
+      subst (Keeps n role) same (kept_begun_with n role opened purse (λ none. refl) ((law n role is).0 foreign.1)))
 ]
 
 -- and so the part holds
@@ -211,8 +211,8 @@ pub opens : {S C D E K G : Type 0} (owner_of : S → ℕ → BoardModel → ℕ)
     → sent_lanes part.outs.items ≡ replicate n []
     → received_lanes part.ins.items ≡ replicate n []
     → (owner_of part.owners.now n part.job.now.start ≡ part.me → 0 < purse)
-    → (owner_of part.owners.now n part.job.now.start ≡ part.me → (via : Move) × (state_of part.worker ≡ with_purse purse (first_worker n (task_in part.job.now) via)))
-    → (owner_of part.owners.now n part.job.now.start ≢ part.me → state_of part.worker ≡ with_purse purse (idle_worker n))
+    → (owner_of part.owners.now n part.job.now.start ≡ part.me → (via : Move) × (state_of part.worker ≡ begun_with purse (first_worker n (task_in part.job.now) via)))
+    → (owner_of part.owners.now n part.job.now.start ≢ part.me → state_of part.worker ≡ begun_with purse (idle_worker n))
     → IsGuided (task_in part.job.now) (guide_of (task_in part.job.now)) part.worker.lists
     → IsSoundPart owner_of workers part
 opens owner_of are_workers part n workers purse count law task few there sent received some first idle guided =

@@ -66,5 +66,5 @@ abbrev pub fresh_allowance : AllowanceModel
 fresh_allowance = record { granted = 0; left = 0 }
 
 -- the worker with this purse
-abbrev pub with_purse : ℕ → WorkerState → WorkerState
-with_purse purse worker = record worker { purse = purse }
+abbrev pub begun_with : ℕ → WorkerState → WorkerState
+begun_with purse worker = record worker { purse = purse }

@@ -6,7 +6,7 @@ ghost use Rattle.worker_core.specs.Roles.{IsGuided, guide_of};
 ghost use Rattle.rings.specs.Rings.{out_rings, in_rings, sent_lanes, received_lanes};
 ghost use Rattle.hda_run.specs.Jobs.{task_in};
 ghost use Rattle.worker_core.specs.Workers.{state_of};
-ghost use Rattle.thread_parts.specs.Parts.{fresh_allowance, with_purse};
+ghost use Rattle.thread_parts.specs.Parts.{fresh_allowance, begun_with};
 ghost use Rattle.world_model.specs.Openings.{idle_worker, first_worker};
 ghost use Rattle.thread_parts.specs.Parts.{face};
 
@@ -77,11 +77,11 @@ fn open_worker<S: Spread, C: Counting>(
     requires { me < search.now.workers }
     ensures first { S.owner_of search.now.owners.now search.now.workers
         search.now.job.start ≡ me → IfOk result (λ worker. (via : Move) × (state_of worker
-        ≡ with_purse means.purse
+        ≡ begun_with means.purse
         (first_worker search.now.workers (task_in search.now.job) via))) }
     ensures idle { S.owner_of search.now.owners.now search.now.workers
         search.now.job.start ≢ me → IfOk result (λ worker. state_of worker
-        ≡ with_purse means.purse (idle_worker search.now.workers)) }
+        ≡ begun_with means.purse (idle_worker search.now.workers)) }
     ensures guided { IfOk result (λ worker. IsGuided (task_in search.now.job)
         (guide_of (task_in search.now.job)) worker.lists) }
 {

@@ -1,55 +1,136 @@
--- What n workers answer.
-use Rattle.std.proofs.Common.{ℕ, None, Some, refl, inl, inr, arith}
+-- The parts of a run, one after another.
+use Rattle.std.proofs.Common.{◌≡◌, ℕ, refl, sym, ◌∙◌, subst, inr, Option, Some, None, replicate, zero, suc, List, [], ◌∷◌, ◌++◌, map, length, ap, arith}
+use Rattle.std.specs.Prelude.{◌≤◌, IfNone, IfSome, slice_get, slice_index_or, option_map}
+use Rattle.std.proofs.lemmas.Option.{none-some, slice_get-map, get_or_from_slice_get}
+use Rattle.rings.specs.Rings.{Ring, ArePaired}
+use Rattle.hda_run.specs.Jobs.{JobModel, task_in}
+use Rattle.thread_parts.specs.Parts.{SealedModel, face}
+use Rattle.thread_joins.specs.Threads.{IsJoint}
+use Rattle.std.proofs.lemmas.List.{length-replicate, length-set}
+use Rattle.board.specs.declared.moves.Move.TheVariants.{U}
 use Rattle.board.specs.Boards.{BoardModel}
-use Rattle.outcomes.specs.declared.outcome.Cause.{Cause}
-use Rattle.outcomes.specs.declared.outcome.Cause.TheVariants.{Limit, Memory, Start, Cost, Cut}
-use Rattle.outcomes.specs.declared.outcome.Want.TheVariants.{Refused, Stated}
-use Rattle.outcomes.specs.declared.outcome.Outcome.{Outcome}
-use Rattle.outcomes.specs.declared.outcome.Outcome.TheVariants as outcome
-use Rattle.outcomes.specs.Endings.{without_rows}
-use Rattle.world_model.specs.Outcomes.{IsGiven}
+use Rattle.board.specs.Rows.{IsLowerBound}
+use Rattle.owners.specs.Owners.{AreWorkers}
+use Rattle.outcomes.specs.Outcomes.{Task}
+use Rattle.outcomes.specs.declared.outcome.Want.TheVariants.{Stated}
+use Rattle.outcomes.specs.declared.outcome.Ending.{Ending}
+use Rattle.outcomes.specs.declared.outcome.Ending.TheVariants.{Optimal, Unsolvable, Bounded}
+use Rattle.world_model.specs.Openings.{IsJob, opening, idle_worker, first_worker}
+use Rattle.world_model.specs.Shapes.{IsTask}
 use Rattle.world_model.specs.Worlds.{WorldState}
-use Rattle.world_ends.specs.Endings.{EndsIn}
-use Rattle.world_ends.proofs.PartLemmas.{bounds_alone, rows_alone}
-use Rattle.hda_run.specs.WholeRuns.{IsOfWholeRun}
-use Rattle.thread_runs.specs.Laws.{HasItsRows, IsLimitCostOrMemory, WholeRunsSayWhy, OneIsAlone, SeveralAreJoined, SolvedRunsEnd, LimitsAreKept, ThreadsAreAsAsked}
+use Rattle.world_model.proofs.RunLemmas.{expansions_limited, openings_sound}
+use Rattle.world_ends.specs.Readings.{BoundsAreOfWorlds, HasBoundOf}
+use Rattle.world_model.proofs.KeptLemmas.{kept_never_cut}
+use Rattle.hda_run.specs.WholeRuns.{EndsWholeRun}
+use Rattle.hda_run.specs.Worlds.{job_of, IsWorkerCount}
+use Rattle.hda_run.proofs.LawLemmas.{never_stated}
+use Rattle.thread_joins.specs.Laws.{JoinedWorldsAnswer}
+use Rattle.thread_joins.specs.Threads.{IsJoined, IsFoundByThreads}
+use Rattle.thread_runs.specs.Solved.{IsLeftToOne}
+use Rattle.world_model.specs.declared.steps.Stop.TheVariants as stops
 
-named : (cause : Cause) → IsOfWholeRun cause → IsLimitCostOrMemory cause
-named Limit whole = inl refl
-named Cost whole = inr (inl refl)
-named (Memory (Refused refused)) whole = inr (inr (refused, refl))
-named (Memory Stated) whole = absurd (whole.2 refl)
-named Start whole = absurd (whole.1 refl)
-named Cut whole = absurd (whole.0 refl)
+some_is : {X : Type 0} (a b : X) → Some a ≡ Some b → a ≡ b
+some_is a b h = cc
 
-pub runs_say_why : WholeRunsSayWhy
-runs_say_why bound best cause kept = named cause kept
+-- what holds of each element and of one more at the end
+pub each_more : {X : Type 0} (P : ℕ → X → Type 0) (xs : List X) (y : X) → ((i : ℕ) (x : X) → slice_get xs i ≡ Some x → P i x) → P (length xs) y → (i : ℕ) (x : X) → slice_get (xs ++ y ∷ []) i ≡ Some x → P i x
+each_more P [] y old new zero x at = subst (P 0) (some_is y x at) new
+each_more P [] y old new (suc i) x at = absurd (cc at)
+each_more P (z ∷ xs) y old new zero x at = old 0 x at
+each_more P (z ∷ xs) y old new (suc i) x at = each_more (λ (k : ℕ). P (suc k)) xs y (λ k v h. old (suc k) v h) new i x at
 
--- a world that gives an outcome with its rows ends with the outcome without them
-ends_in : (w : WorldState) (it : Outcome) → IsGiven w it → HasItsRows it → EndsIn w (without_rows it)
-ends_in w (outcome.Optimal cost plan rows) given has = (rows_alone w cost plan rows given.4.2).1 given
-ends_in w (outcome.Unsolvable why) given has = given
-ends_in w (outcome.Bounded bound best cause (Some rows)) given has = (bounds_alone w bound best cause rows given.4.1).1 (inl given)
-ends_in w (outcome.Bounded bound best cause None) given has = absurd (cc has)
+-- each of equal elements
+replicated : {X : Type 0} (n i : ℕ) (x y : X) → slice_get (replicate n x) i ≡ Some y → y ≡ x
+replicated zero i x y at = absurd (cc at)
+replicated (suc n) zero x y at = sym (some_is x y at)
+replicated (suc n) (suc i) x y at = replicated n i x y at
 
-module _ {S : Type 0} (owner_of : S → ℕ → BoardModel → ℕ) where
-  pub solved_ends : SolvedRunsEnd owner_of
-  solved_ends p owners n it (inl (several, (w, joined, (kept, given)))) has = inl (several, (w, joined, (kept, ends_in w it given has)))
-  solved_ends p owners n it (inr ((w, run, given), left)) has = inr ((w, run, ends_in w it given has), left)
+-- a row, as what is seen of all rows has it
+module _ {V Y : Type 0} (f : V → Y) (rows : List V) (i : ℕ) (row : V) (at : slice_get rows i ≡ Some row) where
+  mapped : slice_get (map f rows) i ≡ Some (f row)
+  mapped = slice_get-map f rows i ∙ ap (option_map f) at
 
-module _ {S X : Type 0} (gives : WorldState → X → Type 0) (owner_of : S → ℕ → BoardModel → ℕ) where
-  pub one_alone : OneIsAlone gives owner_of
-  one_alone p owners it (inl (several, by)) = absurd (omega (arith, several))
-  one_alone p owners it (inr (run, left)) = run
+  pub row_is : (d : Y) → slice_index_or (map f rows) i d ≡ f row
+  row_is d = get_or_from_slice_get (map f rows) i (f row) d mapped
 
-  pub several_joined : SeveralAreJoined gives owner_of
-  several_joined p owners n it (inl (several, (w, joined, (kept, given)))) enough = inl (w, joined, kept, given)
-  several_joined p owners n it (inr (run, inl one)) enough = absurd (omega (arith, one, enough))
-  several_joined p owners n it (inr (run, inr left)) enough = inr (run, left)
+  pub row_same : (n : ℕ) (x : Y) → map f rows ≡ replicate n x → f row ≡ x
+  row_same n x same = replicated n i x (f row) (subst (λ (l : List Y). slice_get l i ≡ Some (f row)) same mapped)
 
-  pub limits_kept : LimitsAreKept gives owner_of
-  limits_kept p owners n it (inl (several, (w, joined, (kept, given)))) = (w, given, joined.within_limit)
-  limits_kept p owners n it (inr ((w, run, given), left)) = (w, given, run.within_limit)
+module _ {S : Type 0} (p : JobModel) (owners : S) where
+  -- the face of worker i with its ends of these rings
+  abbrev pub IsFace : List (List Ring) → List (List Ring) → ℕ → SealedModel S → Type 0
+  IsFace outs ins i it = it ≡ face p owners i (slice_index_or outs i []) (slice_index_or ins i [])
 
-  pub as_asked : ThreadsAreAsAsked gives owner_of
-  as_asked p owners n it (w, joined, (kept, given)) = (w, given, joined.count, joined.owners)
+  rows_are : (g : SealedModel S → List Ring) (faces : List (SealedModel S)) (rows : List (List Ring)) → length faces ≡ length rows → ((i : ℕ) (it : SealedModel S) → slice_get faces i ≡ Some it → g it ≡ slice_index_or rows i []) → map g faces ≡ rows
+  rows_are g [] [] len h = refl
+  rows_are g [] (r ∷ rows) len h = absurd (omega (arith, len))
+  rows_are g (f ∷ faces) [] len h = absurd (omega (arith, len))
+  rows_are g (f ∷ faces) (r ∷ rows) len h =
+      let first : g f ≡ r = h 0 f refl in
+      let rest : map g faces ≡ rows = rows_are g faces rows (omega (arith, len)) (λ i it at. h (suc i) it at) in
+      λ t. first t ∷ rest t
+
+  pub joint_of : (n : ℕ) (faces : List (SealedModel S)) (outs ins : List (List Ring)) → length faces ≡ n → ArePaired n outs ins → ((i : ℕ) (it : SealedModel S) → slice_get faces i ≡ Some it → IsFace outs ins i it) → IsJoint p owners n faces
+  joint_of n faces outs ins count paired each =
+      let to_each : map (λ (it : SealedModel S). it.outs) faces ≡ outs = rows_are (λ (it : SealedModel S). it.outs) faces outs (omega (arith, count, paired.outs_len)) (λ i it at. ap (λ (x : SealedModel S). x.outs) (each i it at)) in
+      let from_each : map (λ (it : SealedModel S). it.ins) faces ≡ ins = rows_are (λ (it : SealedModel S). it.ins) faces ins (omega (arith, count, paired.ins_len)) (λ i it at. ap (λ (x : SealedModel S). x.ins) (each i it at)) in
+      record {
+        count = count;
+        jobs = λ i it at. ap (λ (x : SealedModel S). x.job) (each i it at);
+        spreads = λ i it at. ap (λ (x : SealedModel S). x.owners) (each i it at);
+        places = λ i it at. ap (λ (x : SealedModel S). x.me) (each i it at);
+        paired = subst (λ (both : List (List Ring) × List (List Ring)). ArePaired n both.0 both.1) (λ t. (sym to_each t, sym from_each t)) paired;
+      }
+
+-- ---- What is found of threads.
+
+module _ {S X : Type 0} (gives : WorldState → X → Type 0) (owner_of : S → ℕ → BoardModel → ℕ) (p : JobModel) (owners : S) (n : ℕ) where
+  -- what is found of a world that is kept, its threads have found
+  pub found_given : (found : Option X) → IsFoundByThreads gives owner_of p owners n found → IfSome found (λ answer. IsFoundByThreads gives owner_of p owners n (Some answer))
+  found_given None by = tt
+  found_given (Some answer) by = by
+
+  pub several_found : (2 ≤ n) → (found : Option X) → IsFoundByThreads gives owner_of p owners n found → IfSome found (λ answer. (2 ≤ n) × IsFoundByThreads gives owner_of p owners n (Some answer))
+  several_found several None by = tt
+  several_found several (Some answer) by = (several, by)
+
+  -- and where nothing is, it isn't kept
+  pub none_left : (found : Option X) → IsFoundByThreads gives owner_of p owners n found → IfNone found (IsLeftToOne owner_of p owners n)
+  none_left None (w, joined, dropped) = inr (w, joined, dropped)
+  none_left (Some answer) by = tt
+
+  module _ (lower : IsLowerBound p.rule (task_in p).sum p.goal) where
+    pub found_answers : (answers : Task → X → Type 0) → JoinedWorldsAnswer gives answers → (answer : X) → IsFoundByThreads gives owner_of p owners n (Some answer) → answers (task_in p) answer
+    found_answers answers joined_answer answer (w, joined, (kept, given)) = joined_answer (job_of owner_of p owners n) w answer joined kept lower given
+
+    pub found_whole : (ending : X → Ending) → BoundsAreOfWorlds gives ending → (answer : X) → IsFoundByThreads gives owner_of p owners n (Some answer) → EndsWholeRun (ending answer)
+    found_whole ending bounds answer (w, joined, (kept, given)) = whole (ending answer) (bounds w answer given)
+      where
+        whole : (it : Ending) → HasBoundOf w it → EndsWholeRun it
+        whole (Optimal cost plan) has = tt
+        whole (Unsolvable why) has = tt
+        whole (Bounded bound best cause) has =
+            let below = subst (λ (task : Task). IsLowerBound task.rule task.sum task.goal) (sym joined.task) lower in
+            let never = kept_never_cut w bound best cause joined.shaped joined.sound kept below has in
+            (never.0, never.1, never_stated w joined.no_list bound best cause has)
+
+-- where no thread has started, the world is the opening one, which isn't kept
+pub none_started : {S : Type 0} (owner_of : S → ℕ → BoardModel → ℕ) → AreWorkers owner_of → (p : JobModel) (owners : S) (n : ℕ) → IsTask (task_in p) → IsWorkerCount n → IsLeftToOne owner_of p owners n
+none_started owner_of are_workers p owners n task count =
+    let job = job_of owner_of p owners n in
+    let w = opening job U in
+    let is : IsJob job = record { task = task; some = count.0; few = count.1; owners = λ b. are_workers owners n b count.0 } in
+    let sound = openings_sound job U is in
+    let joined : IsJoined job w = record {
+      task = refl;
+      owners = λ b. refl;
+      count = length-set (replicate n (idle_worker n)) (job.owner job.task.start) (first_worker n job.task U) ∙ length-replicate n (idle_worker n);
+      limit = refl;
+      shaped = sound.0;
+      sound = sound.1;
+      at_quiet = λ stopped. absurd (none-some stops.Quiet stopped);
+      within_limit = expansions_limited w sound.2;
+      at_limit = λ stopped. absurd (none-some stops.Limit stopped);
+      no_list = λ stopped. none-some (stops.Memory Stated) stopped;
+    } in
+    inr (w, joined, λ kept. kept)
