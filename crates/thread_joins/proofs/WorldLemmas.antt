@@ -18,9 +18,9 @@ use Rattle.world_model.specs.declared.parts.Item.{Item}
 use Rattle.world_model.specs.Shapes.{IsShaped}
 use Rattle.world_model.specs.Workers.{WorkerState, Lane, Packet, IsTaskBoard, IsFloor, HasNothingBelow}
 use Rattle.world_model.specs.Worlds.{WorldState, IsUnderWay, LiesIn, IsLane, HasInLaneTo, IsWorker, Knows}
-use Rattle.world_model.proofs.ChangeLemmas.{part_le, none_in_empty, get_below, at_in, place_of, head_in, all_from_places, knows_owned}
+use Rattle.world_model.proofs.ChangeLemmas.{part_le, sum_plus, none_in_empty, get_below, at_in, place_of, head_in, all_from_places, knows_owned}
 use Rattle.world_model.specs.declared.limits.TheConstants.{GREATEST_GRANT, LANE_LIMIT}
-use Rattle.world_model.specs.declared.steps.Stop.TheVariants.{Limit, Memory, Quiet}
+use Rattle.world_model.specs.declared.steps.Stop.TheVariants.{Limit, Memory, Quiet, Start}
 use Rattle.world_model.specs.Books.{BookState}
 use Rattle.world_model.specs.declared.parts.Known.{Known}
 use Rattle.world_model.specs.declared.steps.Stop.{Stop}
@@ -53,9 +53,11 @@ use Rattle.board.specs.Rows.{IsLowerBound}
 use Rattle.outcomes.specs.declared.outcome.Want.TheVariants.{Stated}
 use Rattle.lower_bound.specs.Tables.{BoundModel}
 use Rattle.world_model.proofs.KeptLemmas.{kept_quiet as kept_is_quiet}
+use Rattle.world_model.specs.Credit.{expansion_count}
+use Rattle.world_model.specs.Openings.{Job}
 use Rattle.hda_run.specs.Worlds.{job_of}
 use Rattle.thread_joins.specs.Threads.{IsJoined}
-use Rattle.thread_joins.specs.Laws.{BoardsHaveOwners, JoinedWorldsAnswer, JoinedLimitsAreKept, LimitsAreSpent, NoListStopsThreads, QuietHasNoCredit, QuietIsStill}
+use Rattle.thread_joins.specs.Laws.{BoardsHaveOwners, JoinedWorldsAnswer, JoinedLimitsAreKept, LimitsAreSpent, GrantsAreCounted, BooksSayWhatIsFound, FindingsSpendTheirGrants, NoListStopsThreads, QuietHasNoCredit, QuietIsStill}
 
 -- ---- what is left in rings, and the lanes of the world that it makes: the least of one after the other
 
@@ -516,15 +518,17 @@ module _ {S C D E K G : Type 0} (owner_of : S → ℕ → BoardModel → ℕ) (p
   pub joined_is : (workers : List (Worker C D E K G)) (ins : List (Vec ReceiverModel Global)) (w : WorldState) (expanded : ℕ) → IsWorldOf owner_of p owners n book workers ins w
       → book.limit ≡ p.limit
       → expanded ≡ sum_by (λ worker. worker.expansions) (states_of workers)
+      → book.granted ≡ sum_by (λ worker. worker.allowance + worker.expansions) (states_of workers)
       → expanded ≤ book.granted
       → book.granted ≤ expanded + GREATEST_GRANT * n
       → book.granted ≤ book.limit
       → (book.stop ≡ Some Limit → book.granted ≡ book.limit)
       → book.stop ≢ Some (Memory Stated)
       → IsJoined (job_of owner_of p owners n) w
-  joined_is workers ins w expanded is limit sum within high capped at_limit no_list =
+  joined_is workers ins w expanded is limit sum whole within high capped at_limit no_list =
       let states : length (states_of workers) ≡ n = length-map workers (λ (x : Worker C D E K G). state_of x) ∙ is.count in
       let total : expanded ≡ sum_by (λ worker. worker.expansions) w.workers = sum ∙ ap (λ (ws : List WorkerState). sum_by (λ worker. worker.expansions) ws) (sym is.parts.works) in
+      let book_granted : w.book.granted ≡ book.granted = ap (λ (b : BookState). b.granted) is.book_is in
       let book_limit : w.book.limit ≡ p.limit = ap (λ (b : BookState). b.limit) is.book_is ∙ limit in
       record {
         task = is.parts.asks;
@@ -534,6 +538,8 @@ module _ {S C D E K G : Type 0} (owner_of : S → ℕ → BoardModel → ℕ) (p
         shaped = is.parts.shaped;
         sound = is.parts.sound;
         at_quiet = λ quiet. is.at_quiet (sym (ap (λ (b : BookState). b.stop) is.book_is) ∙ quiet);
+        granted = book_granted ∙ (whole ∙ ap (λ (ws : List WorkerState). sum_by (λ worker. worker.allowance + worker.expansions) ws) (sym is.parts.works));
+        spent = omega (arith, total, high, book_granted);
         within_limit = omega (arith, total, within, capped, limit);
         at_limit = λ stopped.
             let all = at_limit (sym (ap (λ (b : BookState). b.stop) is.book_is) ∙ stopped) in
@@ -557,6 +563,36 @@ limits_spent job w joined stopped =
     let spent = at.1 in
     let n = joined.count in
     (omega (arith, granted, l), omega (arith, spent, l, n))
+
+pub grants_counted : GrantsAreCounted
+grants_counted job w joined =
+    let whole = joined.granted in
+    let parts = sum_plus (λ (x : WorkerState). x.allowance) (λ (x : WorkerState). x.expansions) w.workers in
+    let spent = joined.spent in
+    let n = joined.count in
+    (omega (arith, whole, parts), omega (arith, whole, parts, spent, n))
+
+-- no more is expanded than was granted
+within_grants : (job : Job) (w : WorldState) → IsJoined job w → expansion_count w ≤ w.book.granted
+within_grants job w joined = let whole = (grants_counted job w joined).0 in omega (arith, whole)
+
+module _ {S X : Type 0} (gives : WorldState → X → Type 0) (owner_of : S → ℕ → BoardModel → ℕ) where
+  pub books_say : BooksSayWhatIsFound gives owner_of
+  books_say p owners n book None (w, joined, is, dropped) =
+      (λ stopped. refl, λ want stopped. absurd (dropped (subst (IsKeptAt w) (sym (ap (λ (b : BookState). b.stop) is ∙ stopped)) tt)))
+  books_say p owners n book (Some it) (w, joined, is, (kept, given)) = (
+    λ stopped. ⊎_elim
+        (λ (e : book.stop ≡ None). absurd (subst (IsKeptAt w) (ap (λ (b : BookState). b.stop) is ∙ e) kept))
+        (λ (e : book.stop ≡ Some Start). absurd (subst (IsKeptAt w) (ap (λ (b : BookState). b.stop) is ∙ e) kept)) stopped,
+    λ want stopped none. none-some it (sym none),
+  )
+
+  pub grants_spent : FindingsSpendTheirGrants gives owner_of
+  grants_spent p owners n book it (w, joined, is, (kept, given)) =
+      let granted : w.book.granted ≡ book.granted = ap (λ (b : BookState). b.granted) is in
+      let low = within_grants (job_of owner_of p owners n) w joined in
+      let high = joined.spent in
+      (w, given, joined.count, omega (arith, granted, low), omega (arith, granted, high))
 
 no_total : (workers : List WorkerState) → ((i : ℕ) (worker : WorkerState) → slice_get workers i ≡ Some worker → worker.purse ≡ 0) → sum_by (λ worker. worker.purse) workers ≡ 0
 no_total [] none = refl

@@ -1,5 +1,5 @@
 -- Runs by threads.
-use Rattle.std.specs.Prelude.{ℕ, ◌≡◌, ◌≢◌, ◌+◌, ◌*◌, ◌≤◌, length, Option, None, Some, List, map, slice_get}
+use Rattle.std.specs.Prelude.{ℕ, ◌≡◌, ◌≢◌, ◌+◌, ◌*◌, ◌≤◌, length, sum_by, Option, None, Some, List, map, slice_get}
 use Rattle.board.specs.Boards.{BoardModel}
 use Rattle.outcomes.specs.declared.outcome.Want.TheVariants.{Stated}
 use Rattle.world_model.specs.declared.limits.TheConstants.{GREATEST_GRANT}
@@ -17,9 +17,9 @@ use Rattle.thread_joins.specs.Worlds.{AreAtRest}
 use Rattle.rings.specs.Rings.{ArePaired}
 use Rattle.thread_parts.specs.Parts.{SealedModel}
 
--- The world of a job's workers, when all were joined. It is shaped and sound. Where it is quiet, all is at rest. At most the limit was
--- expanded. Where it was halted for the limit, all of that is granted, and spent except at most one grant for each worker. No list of steps
--- stopped it.
+-- The world of a job's workers, when all were joined. It is shaped and sound. Where it is quiet, all is at rest. What its book has granted
+-- was expanded, except what workers have left of it, at most one grant for each. At most the limit was expanded. Where it was halted for
+-- the limit, all of that is granted, and spent except at most one grant for each worker. No list of steps stopped it.
 pub record IsJoined (job : Job) (w : WorldState) : Type 0 where
   pub task : w.task ≡ job.task
   pub owners : (b : BoardModel) → w.owner b ≡ job.owner b
@@ -28,6 +28,8 @@ pub record IsJoined (job : Job) (w : WorldState) : Type 0 where
   pub shaped : IsShaped w
   pub sound : IsSound w
   pub at_quiet : w.book.stop ≡ Some Quiet → AreAtRest w
+  pub granted : w.book.granted ≡ sum_by (λ worker. worker.allowance + worker.expansions) w.workers
+  pub spent : w.book.granted ≤ expansion_count w + GREATEST_GRANT * job.count
   pub within_limit : expansion_count w ≤ job.limit
   pub at_limit : w.book.stop ≡ Some Limit → (w.book.granted ≡ job.limit) × (job.limit ≤ expansion_count w + GREATEST_GRANT * job.count)
   pub no_list : w.book.stop ≢ Some (Memory Stated)

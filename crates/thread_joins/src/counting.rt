@@ -9,8 +9,8 @@ use message_ledger::{Allowance, Capped, Gathered, Grants, Shares, Tickets};
 use std::sync::ledger::Ledger;
 use worker_core::Worker;
 
-/// How many boards the workers have expanded, where each has its ticket. They are at most as many
-/// as were granted, and fewer by at most one grant for each worker.
+/// How many boards the workers have expanded, where each has its ticket. What was granted is that,
+/// and what each worker may still expand: at most one grant for each.
 pub(crate) fn count_expanded<L: Ledger + Send + Sync, M: Capped + Send + Sync>(
     tickets: Tickets<M>,
     grants: Grants<Shares<L, M>>,
@@ -19,6 +19,8 @@ pub(crate) fn count_expanded<L: Ledger + Send + Sync, M: Capped + Send + Sync>(
     requires taken { tickets ≡ 0 }
     requires whole { length workers.items ≡ M.parts }
     ensures sum { result ≡ sum_by (λ worker. worker.expansions) (states_of workers.items) }
+    ensures whole { grants ≡ sum_by (λ worker. worker.allowance + worker.expansions)
+        (states_of workers.items) }
     ensures within { result ≤ grants }
     ensures spent { grants ≤ result + GREATEST_GRANT * length workers.items }
 {
@@ -43,7 +45,8 @@ fn count_one<L: Ledger + Send + Sync, M: Capped + Send + Sync>(
     ensures bound { gathered.new.amount ≤ grants.old }
     ensures grants { grants.new ≡ grants.old }
     ensures sum { result ≡ spent allowance }
-    ensures spent { allowance.granted ≤ result + GREATEST_GRANT }
+    ensures spent { (allowance.granted ≡ allowance.left + result)
+        × (allowance.left ≤ GREATEST_GRANT) }
 {
     let _ = allowance.left();
     let expanded = allowance.spent();

@@ -1,10 +1,12 @@
 //! The laws of joined worlds: each is the contract of a function that does nothing.
 
 ghost use Rattle.thread_joins.specs.Laws.{BoardsHaveOwners, JoinedLimitsAreKept, LimitsAreSpent};
-ghost use Rattle.thread_joins.specs.Laws.{QuietHasNoCredit, QuietIsStill};
+ghost use Rattle.thread_joins.specs.Laws.{GrantsAreCounted, QuietHasNoCredit, QuietIsStill};
 ghost use Rattle.thread_joins.specs.Laws.{JoinedWorldsAnswer, KeptWorldsAloneGive};
-ghost use Rattle.thread_joins.specs.Laws.{NoListStopsThreads};
+ghost use Rattle.thread_joins.specs.Laws.{NoListStopsThreads, BooksSayWhatIsFound};
+ghost use Rattle.thread_joins.specs.Laws.{FindingsSpendTheirGrants};
 
+use owners::Spread;
 use world_ends::Reading;
 
 /// In a joined world each board has the owner that the job says, one of as many workers as the job
@@ -21,15 +23,25 @@ pub fn limits_are_kept()
     ensures spent { LimitsAreSpent }
 {}
 
-/// In a joined world that is quiet no credit is left, and nothing is under way.
+/// In a joined world that is quiet no credit is left, and nothing is under way. In any, what was
+/// granted is what was expanded and what is left, which is at most one grant for each worker.
 pub fn quiet_is_at_rest()
     ensures credit { QuietHasNoCredit }
     ensures still { QuietIsStill }
+    ensures granted { GrantsAreCounted }
 {}
 
 /// An answer is found of worlds that are kept, and of no other.
 pub fn kept_worlds_alone_give<A: Reading>()
     ensures { KeptWorldsAloneGive A.gives }
+{}
+
+/// Nothing is found where the shared book says that the run went on, or that a thread could not be
+/// started. Where memory was refused something is. What threads expanded is what their book granted,
+/// except at most one grant for each.
+pub fn findings_are_of_their_books<A: Reading, S: Spread>()
+    ensures found { BooksSayWhatIsFound A.gives S.owner_of }
+    ensures spent { FindingsSpendTheirGrants A.gives S.owner_of }
 {}
 
 /// What a joined world that is kept gives answers its job, in each reading. No list of steps

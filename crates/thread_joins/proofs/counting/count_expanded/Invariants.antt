@@ -12,6 +12,7 @@ invariant-workers g l =
       ends : (goal.iterator-workers g).is_finite l.worker-iterator;
       count : l.gathered.tickets + length (into_iter_items l.worker-iterator) ≡ length l.fn.workers.items;
       grants : l.grants ≡ l.fn.grants;
+      whole : l.gathered.amount + sum_by (λ worker. worker.allowance.left + spent worker.allowance) (into_iter_items l.worker-iterator) ≡ sum_by (λ worker. worker.allowance.left + spent worker.allowance) l.fn.workers.items;
       within : l.expanded ≤ l.gathered.amount;
       high : l.gathered.amount ≤ l.expanded + GREATEST_GRANT * l.gathered.tickets;
       sum : l.expanded + sum_by (λ worker. spent worker.allowance) (into_iter_items l.worker-iterator) ≡ sum_by (λ worker. spent worker.allowance) l.fn.workers.items;

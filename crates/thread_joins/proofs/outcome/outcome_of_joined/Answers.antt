@@ -53,12 +53,14 @@ returns g c =
     let sum : expanded ≡ sum_by (λ worker. worker.expansions) (states_of c.deref_mut.result.now) =
     c.count_expanded.ensures.sum ∙ ap (λ (ws : List WorkerState). sum_by (λ worker. worker.expansions) ws) (ap (λ ws. states_of ws) items ∙ same) in
     let granted : c.into_grants.result ≡ book.granted = c.into_grants.ensures in
+    let whole : book.granted ≡ sum_by (λ worker. worker.allowance + worker.expansions) (states_of c.deref_mut.result.now) =
+    sym granted ∙ (c.count_expanded.ensures.whole ∙ ap (λ (ws : List WorkerState). sum_by (λ worker. worker.allowance + worker.expansions) ws) (ap (λ ws. states_of ws) items ∙ same)) in
     let within : expanded ≤ book.granted = subst (λ (k : ℕ). expanded ≤ k) granted c.count_expanded.ensures.within in
     let high : book.granted ≤ expanded + GREATEST_GRANT * n =
     subst (λ (k : ℕ). book.granted ≤ expanded + GREATEST_GRANT * k) count (subst (λ (k : ℕ). k ≤ expanded + GREATEST_GRANT * length (with_items joined.workers new).items) granted c.count_expanded.ensures.spent) in
     let limit : book.limit ≡ p.limit = c.stop.ensures.allowed ∙ sym c.requires.limit in
     let at_limit : book.stop ≡ Some Limit → book.granted ≡ book.limit = λ stopped. c.stop.ensures.limit (c.stop.ensures.value ∙ stopped) in
     let no_list : book.stop ≢ Some (Memory Stated) = λ stopped. c.stop.ensures.want Stated (c.stop.ensures.value ∙ stopped) refl in
-    let is_joined = joined_is owner_of p owners n book c.deref_mut.result.now joined.ins.items w expanded is limit sum within high c.stop.ensures.within at_limit no_list in
+    let is_joined = joined_is owner_of p owners n book c.deref_mut.result.now joined.ins.items w expanded is limit sum whole within high c.stop.ensures.within at_limit no_list in
     let given = c.outcome_if_kept-found.ensures.given w is in
     record { found = (w, is_joined, given); book = (w, is_joined, has.1.book_is, given) }
