@@ -1,18 +1,18 @@
--- The parts of a run, one after another.
-use Rattle.std.proofs.Common.{◌≡◌, ℕ, refl, sym, ◌∙◌, subst, inr, Option, Some, None, replicate, zero, suc, List, [], ◌∷◌, ◌++◌, map, length, ap, arith}
-use Rattle.std.specs.Prelude.{◌≤◌, IfNone, IfSome, slice_get, slice_index_or, option_map}
+-- The parts of a run, one after another, and what n workers answer.
+use Rattle.std.proofs.Common.{◌≡◌, ℕ, refl, sym, ◌∙◌, subst, inr, Option, Some, None, replicate, zero, suc, List, [], ◌∷◌, ◌++◌, map, length, ap, arith, ◌≤◌, ◌+◌, ◌*◌, inl}
+use Rattle.std.specs.Prelude.{IfNone, IfSome, slice_get, slice_index_or, option_map}
 use Rattle.std.proofs.lemmas.Option.{none-some, slice_get-map, get_or_from_slice_get}
 use Rattle.rings.specs.Rings.{Ring, ArePaired}
 use Rattle.hda_run.specs.Jobs.{JobModel, task_in}
 use Rattle.thread_parts.specs.Parts.{SealedModel, face}
-use Rattle.thread_joins.specs.Threads.{IsJoint}
+use Rattle.thread_joins.specs.Threads.{IsJoint, IsJoined, IsFoundByThreads}
 use Rattle.std.proofs.lemmas.List.{length-replicate, length-set}
 use Rattle.board.specs.declared.moves.Move.TheVariants.{U}
 use Rattle.board.specs.Boards.{BoardModel}
 use Rattle.board.specs.Rows.{IsLowerBound}
 use Rattle.owners.specs.Owners.{AreWorkers}
 use Rattle.outcomes.specs.Outcomes.{Task}
-use Rattle.outcomes.specs.declared.outcome.Want.TheVariants.{Stated}
+use Rattle.outcomes.specs.declared.outcome.Want.TheVariants.{Stated, Refused}
 use Rattle.outcomes.specs.declared.outcome.Ending.{Ending}
 use Rattle.outcomes.specs.declared.outcome.Ending.TheVariants.{Optimal, Unsolvable, Bounded}
 use Rattle.world_model.specs.Openings.{IsJob, opening, idle_worker, first_worker}
@@ -20,14 +20,24 @@ use Rattle.world_model.specs.Shapes.{IsTask}
 use Rattle.world_model.specs.Worlds.{WorldState}
 use Rattle.world_model.proofs.RunLemmas.{expansions_limited, openings_sound}
 use Rattle.world_ends.specs.Readings.{BoundsAreOfWorlds, HasBoundOf}
-use Rattle.world_model.proofs.KeptLemmas.{kept_never_cut}
-use Rattle.hda_run.specs.WholeRuns.{EndsWholeRun}
+use Rattle.world_model.proofs.KeptLemmas.{kept_never_cut, causes_stop}
+use Rattle.hda_run.specs.WholeRuns.{EndsWholeRun, IsOfWholeRun}
 use Rattle.hda_run.specs.Worlds.{job_of, IsWorkerCount}
 use Rattle.hda_run.proofs.LawLemmas.{never_stated}
 use Rattle.thread_joins.specs.Laws.{JoinedWorldsAnswer}
-use Rattle.thread_joins.specs.Threads.{IsJoined, IsFoundByThreads}
 use Rattle.thread_runs.specs.Solved.{IsLeftToOne}
+use Rattle.outcomes.specs.declared.outcome.Cause.{Cause}
+use Rattle.outcomes.specs.declared.outcome.Cause.TheVariants.{Limit, Memory, Start, Cost, Cut}
+use Rattle.outcomes.specs.declared.outcome.Outcome.{Outcome}
+use Rattle.outcomes.specs.Endings.{without_rows}
+use Rattle.world_model.specs.Outcomes.{IsGiven}
+use Rattle.world_ends.specs.Endings.{EndsIn}
+use Rattle.world_ends.proofs.PartLemmas.{bounds_alone, rows_alone, ends_bounded}
+use Rattle.world_model.specs.Credit.{expansion_count}
+use Rattle.world_model.specs.declared.limits.TheConstants.{GREATEST_GRANT}
+use Rattle.thread_runs.specs.Laws.{HasItsRows, IsLimitCostOrMemory, WholeRunsSayWhy, OneIsAlone, SeveralAreJoined, SolvedRunsEnd, LimitsAreKept, FiguresAreWithinTheLimit, FiguresSpendTheLimit, ThreadsAreAsAsked}
 use Rattle.world_model.specs.declared.steps.Stop.TheVariants as stops
+use Rattle.outcomes.specs.declared.outcome.Outcome.TheVariants as outcome
 
 some_is : {X : Type 0} (a b : X) → Some a ≡ Some b → a ≡ b
 some_is a b h = cc
@@ -129,8 +139,72 @@ none_started owner_of are_workers p owners n task count =
       shaped = sound.0;
       sound = sound.1;
       at_quiet = λ stopped. absurd (none-some stops.Quiet stopped);
+      granted = sound.2.granted;
+      spent = omega arith;
       within_limit = expansions_limited w sound.2;
       at_limit = λ stopped. absurd (none-some stops.Limit stopped);
       no_list = λ stopped. none-some (stops.Memory Stated) stopped;
     } in
     inr (w, joined, λ kept. kept)
+
+-- ---- What n workers answer.
+
+named : (cause : Cause) → IsOfWholeRun cause → IsLimitCostOrMemory cause
+named Limit whole = inl refl
+named Cost whole = inr (inl refl)
+named (Memory (Refused refused)) whole = inr (inr (refused, refl))
+named (Memory Stated) whole = absurd (whole.2 refl)
+named Start whole = absurd (whole.1 refl)
+named Cut whole = absurd (whole.0 refl)
+
+pub runs_say_why : WholeRunsSayWhy
+runs_say_why bound best cause kept = named cause kept
+
+-- a world that gives an outcome with its rows ends with the outcome without them
+ends_in : (w : WorldState) (it : Outcome) → IsGiven w it → HasItsRows it → EndsIn w (without_rows it)
+ends_in w (outcome.Optimal cost plan rows) given has = (rows_alone w cost plan rows given.4.2).1 given
+ends_in w (outcome.Unsolvable why) given has = given
+ends_in w (outcome.Bounded bound best cause (Some rows)) given has = (bounds_alone w bound best cause rows given.4.1).1 (inl given)
+ends_in w (outcome.Bounded bound best cause None) given has = absurd (cc has)
+
+-- what is counted of a world, and its limit
+counted_within : (limit counted : ℕ) (w : WorldState) → counted ≡ expansion_count w → expansion_count w ≤ limit → counted ≤ limit
+counted_within limit counted w is few = omega (arith, is, few)
+
+counted_spent : (limit counted more : ℕ) (w : WorldState) → counted ≡ expansion_count w → limit ≤ expansion_count w + more → limit ≤ counted + more
+counted_spent limit counted more w is high = omega (arith, is, high)
+
+counted_all : (limit counted more : ℕ) (w : WorldState) → counted ≡ expansion_count w → expansion_count w ≡ limit → limit ≤ counted + more
+counted_all limit counted more w is all = omega (arith, is, all)
+
+module _ {S : Type 0} (owner_of : S → ℕ → BoardModel → ℕ) where
+  pub solved_ends : SolvedRunsEnd owner_of
+  solved_ends p owners n it (inl (several, (w, joined, (kept, given)))) has = inl (several, (w, joined, (kept, ends_in w it given has)))
+  solved_ends p owners n it (inr ((w, run, given), left)) has = inr ((w, run, ends_in w it given has), left)
+
+  pub figures_within : FiguresAreWithinTheLimit owner_of
+  figures_within p owners n it (inl (several, (w, joined, (kept, given)))) = counted_within p.limit it.figures.expanded w given.1.expanded joined.within_limit
+  figures_within p owners n it (inr ((w, run, given), left)) = counted_within p.limit it.figures.expanded w given.1.expanded run.within_limit
+
+  pub figures_spend : FiguresSpendTheLimit owner_of
+  figures_spend p owners n bound best figures (inl (several, (w, joined, (kept, given)))) =
+      counted_spent p.limit figures.expanded (GREATEST_GRANT * n) w given.1.expanded (joined.at_limit ((causes_stop w bound best Limit (ends_bounded w bound best Limit given.0)).0 refl)).1
+  figures_spend p owners n bound best figures (inr ((w, run, given), left)) =
+      counted_all p.limit figures.expanded (GREATEST_GRANT * n) w given.1.expanded (run.spent ((causes_stop w bound best Limit (ends_bounded w bound best Limit given.0)).0 refl))
+
+module _ {S X : Type 0} (gives : WorldState → X → Type 0) (owner_of : S → ℕ → BoardModel → ℕ) where
+  pub one_alone : OneIsAlone gives owner_of
+  one_alone p owners it (inl (several, by)) = absurd (omega (arith, several))
+  one_alone p owners it (inr (run, left)) = run
+
+  pub several_joined : SeveralAreJoined gives owner_of
+  several_joined p owners n it (inl (several, (w, joined, (kept, given)))) enough = inl (w, joined, kept, given)
+  several_joined p owners n it (inr (run, inl one)) enough = absurd (omega (arith, one, enough))
+  several_joined p owners n it (inr (run, inr left)) enough = inr (run, left)
+
+  pub limits_kept : LimitsAreKept gives owner_of
+  limits_kept p owners n it (inl (several, (w, joined, (kept, given)))) = (w, given, joined.within_limit)
+  limits_kept p owners n it (inr ((w, run, given), left)) = (w, given, run.within_limit)
+
+  pub as_asked : ThreadsAreAsAsked gives owner_of
+  as_asked p owners n it (w, joined, (kept, given)) = (w, given, joined.count, joined.owners)

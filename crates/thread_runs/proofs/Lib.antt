@@ -1,3 +1,2 @@
 -- Lemmas.
-pub mod OpeningLemmas
 pub mod LawLemmas

@@ -1,5 +1,5 @@
 -- The laws of what n workers answer. Each is the contract of a function that does nothing.
-use Rattle.std.specs.Prelude.{ℕ, ◌≡◌, ◌⊎◌, ◌≤◌, ⊤, Option, Some, IsSome, Vec, length}
+use Rattle.std.specs.Prelude.{ℕ, ◌≡◌, ◌⊎◌, ◌+◌, ◌*◌, ◌≤◌, ⊤, Option, Some, IsSome, Vec, length}
 use Rattle.std.specs.declared.alloc.Global.{Global}
 use Rattle.memory.specs.declared.OutOfMemory.{OutOfMemory}
 use Rattle.board.specs.declared.moves.Move.{Move}
@@ -11,10 +11,14 @@ use Rattle.outcomes.specs.declared.outcome.Ending.TheVariants as ending
 use Rattle.outcomes.specs.declared.outcome.Outcome.{Outcome}
 use Rattle.outcomes.specs.declared.outcome.Outcome.TheVariants as outcome
 use Rattle.outcomes.specs.Endings.{without_rows}
+use Rattle.world_model.specs.declared.limits.TheConstants.{GREATEST_GRANT}
 use Rattle.world_model.specs.Credit.{expansion_count}
 use Rattle.world_model.specs.Quiet.{IsKept}
 use Rattle.world_model.specs.Worlds.{WorldState}
+use Rattle.world_ends.specs.declared.figures.Figures.{Figures}
 use Rattle.world_ends.specs.Endings.{EndsIn}
+use Rattle.world_ends.specs.Readings.{EndsWithFigures}
+use Rattle.world_ends.specs.declared.reading.EndingWithFigures.{EndingWithFigures}
 use Rattle.hda_run.specs.Alone.{IsFoundAlone}
 use Rattle.hda_run.specs.Jobs.{JobModel}
 use Rattle.hda_run.specs.WholeRuns.{EndsWholeRun}
@@ -40,6 +44,17 @@ module _ {S : Type 0} (owner_of : S → ℕ → BoardModel → ℕ) where
   -- what is solved, with its rows, ends so without them
   abbrev pub SolvedRunsEnd : Type 0
   SolvedRunsEnd = (p : JobModel) (owners : S) (n : ℕ) (it : Outcome) → IsSolved owner_of p owners n it → HasItsRows it → IsFoundByWorkers EndsIn owner_of p owners n (without_rows it)
+
+  -- the count of expansions that n workers answer is no more than the problem's limit
+  abbrev pub FiguresAreWithinTheLimit : Type 0
+  FiguresAreWithinTheLimit = (p : JobModel) (owners : S) (n : ℕ) (it : EndingWithFigures) → IsFoundByWorkers EndsWithFigures owner_of p owners n it → it.figures.expanded ≤ p.limit
+
+  -- beside a bound that is for the limit, it is all of that except at most one grant for each worker
+  abbrev pub FiguresSpendTheLimit : Type 0
+  FiguresSpendTheLimit =
+      (p : JobModel) (owners : S) (n bound : ℕ) (best : Option (ℕ × Vec Move Global)) (figures : Figures)
+      → IsFoundByWorkers EndsWithFigures owner_of p owners n (record { ending = ending.Bounded bound best Limit; figures = figures })
+      → p.limit ≤ figures.expanded + GREATEST_GRANT * n
 
 module _ {S X : Type 0} (gives : WorldState → X → Type 0) (owner_of : S → ℕ → BoardModel → ℕ) where
   -- what is found by one worker is found by it alone

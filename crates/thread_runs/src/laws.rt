@@ -3,6 +3,7 @@
 ghost use Rattle.owners.specs.Owners.{AreWorkers};
 ghost use Rattle.thread_runs.specs.Laws.{OneIsAlone, SeveralAreJoined, SolvedRunsEnd};
 ghost use Rattle.thread_runs.specs.Laws.{LimitsAreKept, ThreadsAreAsAsked, WholeRunsSayWhy};
+ghost use Rattle.thread_runs.specs.Laws.{FiguresAreWithinTheLimit, FiguresSpendTheLimit};
 
 use owners::Spread;
 use world_ends::Reading;
@@ -35,6 +36,14 @@ pub fn solved_runs_end<S: Spread>()
 #[tactic(auto, using(crate::proofs::LawLemmas::limits_kept))]
 pub fn limits_are_kept<A: Reading, S: Spread>()
     ensures { LimitsAreKept A.gives S.owner_of }
+{}
+
+/// The count of expansions that any number of workers answer is within the limit. Beside a bound for
+/// the limit it is nearly all of that.
+#[tactic(auto, using(crate::proofs::LawLemmas::figures_within, crate::proofs::LawLemmas::figures_spend))]
+pub fn figures_are_within_the_limit<S: Spread>()
+    ensures within { FiguresAreWithinTheLimit S.owner_of }
+    ensures spent { FiguresSpendTheLimit S.owner_of }
 {}
 
 /// What threads find is given by a world of as many workers as were asked for, who own boards as

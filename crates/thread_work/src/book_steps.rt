@@ -1,6 +1,6 @@
 //! The steps that workers take on the book.
 
-ghost use Rattle.std.specs.Prelude.{◌≡◌, IsErr};
+ghost use Rattle.std.specs.Prelude.{◌≡◌, ◌≢◌};
 ghost use Rattle.outcomes.specs.declared.outcome.Want.{Want};
 ghost use Rattle.thread_parts.specs.Parts.{IsSoundPart, KeepsPart};
 ghost use Rattle.world_model.specs.declared.steps.HaltCause.{HaltCause};
@@ -93,10 +93,12 @@ impl<'a, R: Wait, G: Gate, C: Tokens> Site<'a, R, G, C> {
         self.halt(part, HaltCause::Memory(Want::Refused(refused)));
     }
 
-    // Halts the run, and marks it.
+    // Halts the run, and marks it. A worker that runs has its thread: it never halts for one that
+    // could not be started.
     fn halt<S: Spread>(&self, part: &mut Part<'_, S, C>, cause: HaltCause)
         requires holds { IsSoundPart S.owner_of C.workers part.old }
         requires want { (want : Want) → cause ≡ HaltCause.Memory want → C.allows_want want }
+        requires own { cause ≢ HaltCause.Start }
         ensures { KeepsPart S.owner_of C.workers part.old part.new }
     {
         let halted = part.halt(cause, &mut self.book.lock(self.rt));

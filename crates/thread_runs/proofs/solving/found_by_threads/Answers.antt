@@ -1,6 +1,6 @@
 use Rattle.std.proofs.Common.{rules, ◌≤◌}
 use Rattle.std.proofs.lemmas.Option.{IfSome_then}
-use Rattle.thread_runs.proofs.OpeningLemmas.{found_given, several_found, none_left, none_started, found_answers, found_whole}
+use Rattle.thread_runs.proofs.LawLemmas.{found_given, several_found, none_left, none_started, found_answers, found_whole}
 use Rattle.thread_runs.proofs.solving.found_by_threads.Goals as goal
 
 pub returns-in-Ok-clause-run : goal.returns-in-Ok-clause-run
