@@ -1,10 +1,10 @@
 -- What the program leaves in an empty output, and what of its message in the error stream.
 use Rattle.std.proofs.Common.{◌≡◌, ◌∙◌, Bool, true, false, List, [], ◌∷◌, Option, None, Some, inl, inr, sym, ap, subst, map, arith, codes, ℕ, ◌≢◌, Result, Ok, Err, refl, ◌⊎◌, ◌<◌, append-nil, string_bytes, ◌++◌}
-use Rattle.std.specs.Io.KnownBytes.{Appends}
+use Rattle.std.specs.Io.KnownBytes.{Appends, Keeps}
 use Rattle.std.proofs.lemmas.Bool.{true≢false}
 use Rattle.batch_runs.proofs.BatchLemmas.{run_true, outputs_true, beginnings_true}
 use Rattle.setup_runs.specs.Solving.{rules_of, certifying_rules_of}
-use Rattle.batch_cli.specs.Laws.{MessagesAreBegun, OutputsTellTheTruth, SolvedOutputsTellTheTruth, CertificatesAnswerTheFirst, AcceptedInputsAreTrue, DefaultSetupsAreKorfs, RunsWithoutArgumentsAreTrue, BegunOutputsTellTheTruth, ListsAreWritten, TextsAreWritten, RefusedInputsAreFaulty}
+use Rattle.batch_cli.specs.Laws.{MessagesAreBegun, OutputsTellTheTruth, SolvedOutputsTellTheTruth, CertificatesAnswerTheFirst, AcceptedInputsAreTrue, DefaultSetupsAreKorfs, RunsWithoutArgumentsAreTrue, BegunOutputsTellTheTruth, ListsAreWritten, TextsAreWritten, RefusedInputsAreFaulty, DrawnInputsAreCertificates, UndrawnInputsAreMistaken, UpgradesAreSpelled, IsReplayOf, ReplaysAreAnswered}
 use Rattle.std.specs.Prelude.{IfSome, IsSome}
 use Rattle.std.proofs.KnownBytes.{Appends-kept, Keeps-trans}
 use Rattle.clap.specs.Words.{Text, Row, Kinds, first_of}
@@ -21,7 +21,14 @@ use Rattle.byte_streams.specs.Streams.{SinkState, Change, SourceState, from_to}
 use Rattle.byte_streams.specs.Sink.{PutsNone, Flushes, Puts, Writes}
 use Rattle.byte_streams.specs.declared.sink.WriteFailed.{WriteFailed}
 use Rattle.option_texts.specs.Defaults.{default_groups}
-use Rattle.certificate.specs.Certificates.{CertificateModel}
+use Rattle.certificate.specs.Certificates.{CertificateModel, upgraded}
+use Rattle.certificate.specs.Spellings.{spelling}
+use Rattle.certificate.specs.Readings.{certificate, IsFirstFormatFault}
+use Rattle.certificate.specs.declared.faults.FormatFault.{FormatFault}
+use Rattle.reports.specs.Reports.{refused_certificate_data, report_text}
+use Rattle.batch_lines.specs.Lines.{lines_of}
+use Rattle.replay_runs.specs.Replays.{IsEnd}
+use Rattle.replay_runs.specs.Stepping.{output_of}
 use Rattle.certificate.specs.declared.faults.ReadFault.{ReadFault}
 use Rattle.certificate.specs.declared.faults.ReadFault.TheVariants.{Format, Failed, NoMemory as NoMemoryToRead}
 use Rattle.certificate.specs.Faults.{format_code}
@@ -41,7 +48,7 @@ use Rattle.certificate_runs.specs.Outputs.{Output}
 use Rattle.certificate_runs.specs.Certifying.{Replies}
 use Rattle.certificate_runs.specs.Checking.{Checks, IsVerdictOutput}
 use Rattle.certificate_runs.specs.Headline.{WritesAnswer, WritesVerdict, IsCertificateRefusedBy, WritesUpgrade, IsTrueUpgrade, WritesShow, IsTrueShow}
-use Rattle.certificate_runs.proofs.ShowLemmas.{show_true}
+use Rattle.certificate_runs.proofs.EndLemmas.{show_true}
 use Rattle.drawings.specs.declared.drawing.Style.{Style}
 use Rattle.certificate_runs.proofs.HeadlineLemmas.{answer_true, check_true, upgrade_true}
 use Rattle.replay_runs.specs.Replays.{Jobs, Replays}
@@ -106,7 +113,7 @@ asked_certificates o source sink status input known empty well (setup, is, writt
     let first : AreFirst (Some input) answer.lines = rw known at answer.first in
     let put : Appends (Some []) sink.after.contents answer.output = rw empty at answer.put in
     let tables = as_asked o.fold o.groups setup.rule setup.goal setup.tables is.tables in
-    (setup, is.goal, is.rule, is.limit, is.workers, is.spread, tables.0, tables.1, tables.2, answer.lines, first.0, answer.output, first.1, appended sink.after.contents [] answer.output put, answer.answer)
+    (setup, is.goal, is.rule, is.limit, is.workers, is.spread, tables.0, tables.1, tables.2, answer.lines, first.0, answer.output, first.1, appended sink.after.contents [] answer.output put, answer.answer, (λ nothing. subst (λ (left : Option (List ℕ)). AreAll left answer.lines) known (answer.silent nothing)))
 
 pub accepted_inputs : AcceptedInputsAreTrue
 accepted_inputs source sink input known truth =
@@ -142,6 +149,62 @@ boards_written l source sink empty truth = let all = truth refl in (all.0, all.1
 pub text_written : TextsAreWritten
 text_written text source sink empty (inl truth) = written_whole sink (string_bytes text) empty (truth refl)
 text_written text source sink empty (inr truth) = written_whole sink (string_bytes text) empty (truth refl)
+
+zero_or_five : (status : ℕ) → status ≡ 0 → status ≡ 5 → ⊥
+zero_or_five status none five = absurd (omega (arith, none, five))
+
+pub inputs_drawn : DrawnInputsAreCertificates
+inputs_drawn style source sink input known empty truth =
+    let drawn : DrawsTruly style 0 sink input = subst (λ (left : Option (List ℕ)). IfSome left (DrawsTruly style 0 sink)) known truth in
+    elim (drawn (inl refl)) [
+      | inl it ↦ (it.0, it.1, it.2, it.3, it.4, written_whole sink it.1 empty it.5)
+      | inr it ↦ absurd (zero_or_five 0 refl it.3)
+    ]
+
+pub inputs_undrawn : UndrawnInputsAreMistaken
+inputs_undrawn style source sink input known empty truth =
+    let drawn : DrawsTruly style 5 sink input = subst (λ (left : Option (List ℕ)). IfSome left (DrawsTruly style 5 sink)) known truth in
+    elim (drawn (inr refl)) [
+      | inl it ↦ absurd (zero_or_five 5 it.6 refl)
+      | inr it ↦ (it.0, it.1, written_whole sink (report_text (refused_certificate_data it.0)) empty it.2)
+    ]
+
+kept : (after : Option (List ℕ)) (held : List ℕ) → Keeps (Some held) after → after ≡ Some held
+kept None held same = absurd same
+kept (Some contents) held same = λ i. Some (same i)
+
+upgraded_well : (source : Change SourceState) (sink : Change SinkState) (input : List ℕ) → source.before.left ≡ Some input → sink.before.contents ≡ Some [] → IsTrueOf Upgrade 0 source sink → (c : CertificateModel) × (certificate input ≡ Ok (c, [])) × (sink.after.contents ≡ Some (spelling (upgraded c)))
+upgraded_well source sink input known empty truth =
+    let done : UpgradesTruly 0 sink input = subst (λ (left : Option (List ℕ)). IfSome left (UpgradesTruly 0 sink)) known truth in
+    elim (done (inl refl)) [
+      | inl it ↦ (it.0, it.1, written_whole sink (spelling (upgraded it.0)) empty it.2)
+      | inr it ↦ absurd (zero_or_five 0 refl it.3)
+    ]
+
+not_upgraded : (source : Change SourceState) (sink : Change SinkState) (input : List ℕ) → source.before.left ≡ Some input → sink.before.contents ≡ Some [] → IsTrueOf Upgrade 5 source sink → (fault : FormatFault) × IsFirstFormatFault input fault × (sink.after.contents ≡ Some [])
+not_upgraded source sink input known empty truth =
+    let done : UpgradesTruly 5 sink input = subst (λ (left : Option (List ℕ)). IfSome left (UpgradesTruly 5 sink)) known truth in
+    elim (done (inr refl)) [
+      | inl it ↦ absurd (zero_or_five 5 it.3 refl)
+      | inr it ↦ (it.0, it.1, kept sink.after.contents [] (subst (λ (o : Option (List ℕ)). Keeps o sink.after.contents) empty it.2))
+    ]
+
+pub upgrades_spelled : UpgradesAreSpelled
+upgrades_spelled source sink input known empty = (upgraded_well source sink input known empty, not_upgraded source sink input known empty)
+
+replay_of : (jobs : Jobs) (source : Change SourceState) (sink : Change SinkState) (status : ℕ) (input : List ℕ) → source.before.left ≡ Some input → sink.before.contents ≡ Some [] → WritesReplay jobs source sink status → (output : List ℕ) × (sink.after.contents ≡ Some output) × IsReplayOf jobs source input output status
+replay_of jobs source sink status input known empty (inl (lines, all, passed, put, told)) = ([], written_whole sink [] empty put, inl (refl, told))
+replay_of jobs source sink status input known empty (inr (inl (output, refuses, put, told))) = (output, written_whole sink output empty put, inr (inl (refuses, told)))
+replay_of jobs source sink status input known empty (inr (inr (lines, id, replies, outcome, all, end, put, told))) =
+    let whole : lines_of input ≡ lines = subst (λ (left : Option (List ℕ)). AreAll left lines) known all in
+    let same : IsEnd jobs (lines_of input) id replies outcome = subst (λ (ls : List (List ℕ)). IsEnd jobs ls id replies outcome) (sym whole) end in
+    (output_of replies id outcome, written_whole sink (output_of replies id outcome) empty put, inr (inr (id, replies, outcome, same, refl, told)))
+
+pub replays_answered : ReplaysAreAnswered
+replays_answered o source sink status input known empty well (setup, is, written) =
+    let tables = as_asked o.fold o.groups setup.rule setup.goal setup.tables is.tables in
+    let answer = replay_of (setup_jobs setup) source sink status input known empty (written well) in
+    (setup, is.goal, is.rule, is.limit, is.workers, is.spread, tables.0, answer.0, answer.1, answer.2)
 
 pub default_setups : DefaultSetupsAreKorfs
 default_setups setup is = (ap (λ (b : BoardModel). b.tiles) is.goal, is.rule, is.groups, is.limit, is.workers)

@@ -10,10 +10,24 @@ use Rattle.certificate.specs.Certificates.{CertificateModel}
 use Rattle.certificate.specs.Readings.{certificate}
 use Rattle.board_lists.specs.Lines.{lines_text}
 use Rattle.board_lists.specs.Lists.{AreChosen}
-use Rattle.certificate_runs.specs.Headline.{AnswersFirst, IsCertificateRefusedBy}
+use Rattle.certificate.specs.Certificates.{upgraded}
+use Rattle.certificate.specs.Spellings.{spelling}
+use Rattle.certificate.specs.Readings.{IsFirstFormatFault}
+use Rattle.certificate.specs.declared.faults.FormatFault.{FormatFault}
+use Rattle.certificate_check.specs.Refusals.{ItsPlanLeads}
+use Rattle.certificate_runs.specs.Headline.{AnswersFirst, IsCertificateRefusedBy, IsMistaken}
+use Rattle.drawings.specs.Drawings.{IsDrawing}
+use Rattle.drawings.specs.declared.drawing.Style.{Style}
+use Rattle.outcomes.specs.Endings.{without_rows}
+use Rattle.outcomes.specs.declared.outcome.Outcome.{Outcome}
+use Rattle.reports.specs.Reports.{refused_certificate_data, report_text}
+use Rattle.replay_runs.specs.Openings.{setup_jobs}
+use Rattle.replay_runs.specs.Replays.{Jobs, IsEnd, RefusesFirst}
+use Rattle.replay_runs.specs.Replies.{Reply, are_fine, replay_status_of}
+use Rattle.replay_runs.specs.Stepping.{output_of}
 use Rattle.command_line.specs.declared.requests.Listing.{Listing}
 use Rattle.command_line.specs.declared.requests.Options.{Options}
-use Rattle.command_line.specs.declared.requests.Request.TheVariants.{Solve, Certify, Check, Boards, Help, Version}
+use Rattle.command_line.specs.declared.requests.Request.TheVariants.{Solve, Certify, Check, Draw, Upgrade, Replay, Boards, Help, Version}
 use Rattle.batch_lines.specs.Lines.{lines_of}
 use Rattle.batch_runs.specs.Meanings.{AreAllDecided}
 use Rattle.batch_runs.specs.Headline.{TellsTheTruth}
@@ -63,7 +77,8 @@ SolvedOutputsTellTheTruth =
     × (setup.tables.split ≡ o.groups) × (o.fold ≡ true → setup.tables.lookups ≡ []) × (o.fold ≡ false → setup.tables.folds ≡ [])
     × (output : List ℕ) × (sink.after.contents ≡ Some output) × TellsTheTruth (rules_of setup) (lines_of input) output × (status ≡ 0 → AreAllDecided output)
 
--- and what it leaves where a certificate is asked for answers the first board of the input, with a setup of the same kind
+-- And what it leaves where a certificate is asked for answers the first board of the input, with a setup of the same kind. Where it leaves
+-- nothing, the answered lines are all of the input's.
 abbrev pub CertificatesAnswerTheFirst : Type 0
 CertificatesAnswerTheFirst =
     (o : Options) (source : Change SourceState) (sink : Change SinkState) (status : ℕ) (input : List ℕ)
@@ -74,7 +89,7 @@ CertificatesAnswerTheFirst =
     → (setup : SetupModel) × (setup.goal ≡ o.goal) × (setup.rule ≡ o.costs) × (setup.limit ≡ o.limit) × (setup.workers ≡ o.workers) × (setup.spread ≡ o.spread)
     × (setup.tables.split ≡ o.groups) × (o.fold ≡ true → setup.tables.lookups ≡ []) × (o.fold ≡ false → setup.tables.folds ≡ [])
     × (lines more : List (List ℕ)) × (output : List ℕ) × (lines_of input ≡ lines ++ more) × (sink.after.contents ≡ Some output)
-    × AnswersFirst setup.tables.split (certifying_rules_of setup) lines output
+    × AnswersFirst setup.tables.split (certifying_rules_of setup) lines output × (output ≡ [] → lines_of input ≡ lines)
 
 -- where `check` of a known input ends with the status 0, the input is a certificate: no plan costs less than it states, and a plan that it
 -- states leads to the goal at its cost
@@ -135,3 +150,53 @@ TextsAreWritten =
 -- where `check` of a known input ends with the status 5, the input is refused for a cause
 abbrev pub RefusedInputsAreFaulty : Type 0
 RefusedInputsAreFaulty = (source : Change SourceState) (sink : Change SinkState) (input : List ℕ) → source.before.left ≡ Some input → IsTrueOf Check 5 source sink → (code : List ℕ) × IsCertificateRefusedBy input code
+
+-- where `show` of a known input ends with the status 0, the input is a certificate whose plan leads to its goal, if it has one, and an output
+-- that was empty has just its drawing
+abbrev pub DrawnInputsAreCertificates : Type 0
+DrawnInputsAreCertificates =
+    (style : Style) (source : Change SourceState) (sink : Change SinkState) (input : List ℕ)
+    → source.before.left ≡ Some input
+    → sink.before.contents ≡ Some []
+    → IsTrueOf (Draw style) 0 source sink
+    → (c : CertificateModel) × (drawing : List ℕ) × (certificate input ≡ Ok (c, [])) × ItsPlanLeads c × IsDrawing style c drawing × (sink.after.contents ≡ Some drawing)
+
+-- with the status 5 something is wrong with the input, and the output is the report of that
+abbrev pub UndrawnInputsAreMistaken : Type 0
+UndrawnInputsAreMistaken =
+    (style : Style) (source : Change SourceState) (sink : Change SinkState) (input : List ℕ)
+    → source.before.left ≡ Some input
+    → sink.before.contents ≡ Some []
+    → IsTrueOf (Draw style) 5 source sink
+    → (code : List ℕ) × IsMistaken input code × (sink.after.contents ≡ Some (report_text (refused_certificate_data code)))
+
+-- Where `upgrade` of a known input ends with the status 0, the input is a certificate, and an output that was empty has just its spelling in
+-- version 2. With the status 5 the input's bytes have a first fault, and the output is still empty.
+abbrev pub UpgradesAreSpelled : Type 0
+UpgradesAreSpelled =
+    (source : Change SourceState) (sink : Change SinkState) (input : List ℕ)
+    → source.before.left ≡ Some input
+    → sink.before.contents ≡ Some []
+    → (IsTrueOf Upgrade 0 source sink → (c : CertificateModel) × (certificate input ≡ Ok (c, [])) × (sink.after.contents ≡ Some (spelling (upgraded c))))
+    × (IsTrueOf Upgrade 5 source sink → (fault : FormatFault) × IsFirstFormatFault input fault × (sink.after.contents ≡ Some []))
+
+-- A known input of a replay has no board and is answered by nothing. Or its first board is refused, with the status 1. Or all its lines are a
+-- board and its steps, to which the output replies before it reports an outcome, and the status is that of both.
+abbrev pub IsReplayOf : Jobs → Change SourceState → List ℕ → List ℕ → ℕ → Type 0
+IsReplayOf jobs source input output status =
+    ((output ≡ []) × (status ≡ 0))
+    ⊎ (RefusesFirst jobs source output × (status ≡ 1))
+    ⊎ ((id : List ℕ) × (replies : List Reply) × (outcome : Outcome) × IsEnd jobs (lines_of input) id replies outcome × (output ≡ output_of replies id outcome)
+    × (status ≡ replay_status_of (are_fine replies) (without_rows outcome)))
+
+-- where `replay` of a known input ends with the status 0 or 1, an output that was empty has just the answer of a replay with a setup of the
+-- options' goal, costs, limit, workers, spread and groups
+abbrev pub ReplaysAreAnswered : Type 0
+ReplaysAreAnswered =
+    (o : Options) (source : Change SourceState) (sink : Change SinkState) (status : ℕ) (input : List ℕ)
+    → source.before.left ≡ Some input
+    → sink.before.contents ≡ Some []
+    → status < 2
+    → IsTrueOf (Replay o) status source sink
+    → (setup : SetupModel) × (setup.goal ≡ o.goal) × (setup.rule ≡ o.costs) × (setup.limit ≡ o.limit) × (setup.workers ≡ o.workers) × (setup.spread ≡ o.spread)
+    × (setup.tables.split ≡ o.groups) × (output : List ℕ) × (sink.after.contents ≡ Some output) × IsReplayOf (setup_jobs setup) source input output status

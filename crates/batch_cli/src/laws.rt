@@ -5,7 +5,9 @@ ghost use Rattle.batch_cli.specs.Laws.{SolvedOutputsTellTheTruth, CertificatesAn
 ghost use Rattle.batch_cli.specs.Laws.{AcceptedInputsAreTrue, DefaultSetupsAreKorfs};
 ghost use Rattle.batch_cli.specs.Laws.{OptionsArePrinted, RunsWithoutArgumentsAreTrue};
 ghost use Rattle.batch_cli.specs.Laws.{BegunOutputsTellTheTruth, ListsAreWritten, TextsAreWritten};
-ghost use Rattle.batch_cli.specs.Laws.{RefusedInputsAreFaulty};
+ghost use Rattle.batch_cli.specs.Laws.{RefusedInputsAreFaulty, DrawnInputsAreCertificates};
+ghost use Rattle.batch_cli.specs.Laws.{UndrawnInputsAreMistaken, UpgradesAreSpelled};
+ghost use Rattle.batch_cli.specs.Laws.{ReplaysAreAnswered};
 
 /// To a stream that has not failed since, the message is written whole.
 pub fn messages_are_whole()
@@ -67,4 +69,14 @@ pub fn defaults_are_korfs()
 /// A command prints what its options ask for.
 pub fn options_are_printed()
     ensures { OptionsArePrinted }
+{}
+
+/// With the status 0 a certificate is drawn or written in version 2, and with 5 its fault is
+/// reported, or nothing is written. A replay answers the board and the steps of its input.
+#[tactic(auto, using(crate::proofs::LawLemmas::inputs_drawn, crate::proofs::LawLemmas::inputs_undrawn, crate::proofs::LawLemmas::upgrades_spelled, crate::proofs::LawLemmas::replays_answered))]
+pub fn other_outputs_tell_the_truth()
+    ensures drawn { DrawnInputsAreCertificates }
+    ensures undrawn { UndrawnInputsAreMistaken }
+    ensures upgraded { UpgradesAreSpelled }
+    ensures replayed { ReplaysAreAnswered }
 {}
