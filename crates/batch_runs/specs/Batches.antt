@@ -1,5 +1,5 @@
 -- What is written for an input: a report for each line that isn't passed over, in order.
-use Rattle.std.specs.Prelude.{ℕ, ◌≡◌, ◌⊎◌, ◌+◌, ◌-◌, ◌<◌, ◌^◌, true, false, List, [], ◌∷◌, ◌++◌, length, Option, None, Some, Result, Ok, Err, All, ⊤, ◌==◌, ◌&&◌, if◌then◌else◌, codes}
+use Rattle.std.specs.Prelude.{ℕ, ◌≡◌, ◌⊎◌, ◌+◌, ◌-◌, ◌<◌, ◌^◌, true, false, List, [], ◌∷◌, ◌++◌, length, Option, None, Some, Result, Ok, Err, All, IfSome, ⊤, ◌==◌, ◌&&◌, if◌then◌else◌, codes}
 use Rattle.memory.specs.declared.OutOfMemory.{OutOfMemory}
 use Rattle.board.specs.Shapes.{ShapeModel}
 use Rattle.board.specs.Boards.{BoardModel}
@@ -40,8 +40,8 @@ MayGive rules b (Ok solved) = rules.allows b (Some solved.ending)
 MayGive rules b (Err refused) = rules.allows b None
 
 -- each of these boards may be answered by the ending beside it
-abbrev pub AreAllowed : Rules → List (BoardModel × Solved) → Type 0
-AreAllowed rules ready = All (λ it. rules.allows it.0 (Some it.1.ending)) ready
+abbrev pub AreAllowed : Rules → List (BoardModel × Option Solved) → Type 0
+AreAllowed rules ready = All (λ it. IfSome it.1 (λ solved. rules.allows it.0 (Some solved.ending))) ready
 
 -- ---- the answer to a line
 

@@ -50,13 +50,14 @@ pub trait Solver: Ruled {
         ensures allowed { MayGive (Self.rules self.now) start.now result }
         ensures stats { IfOk result (has_stats self.now start.now) };
 
-    /// Boards with their endings, the first one last: this board, and boards of the lines among the
-    /// bytes that the source holds behind its line. The list may be empty.
-    fn solve_ahead(&self, start: &Board, held: &[u8]) -> Vec<(Board, Solved)>
+    /// Boards, the first one last: this board, and boards of the lines among the bytes that the
+    /// source holds behind its line. A board has its ending, unless it is to be solved when its
+    /// line is taken. The list may be empty.
+    fn solve_ahead(&self, start: &Board, held: &[u8]) -> Vec<(Board, Option<Solved>)>
         requires callable { is_callable self.now }
         requires grid { start.now.grid ≡ (Self.rules self.now).grid }
         ensures allowed { AreAllowed (Self.rules self.now) result.items }
-        ensures stats { All (λ it. has_stats self.now it.0 it.1) result.items };
+        ensures stats { All (λ it. IfSome it.1 (has_stats self.now it.0)) result.items };
 
     /// Takes the figures of a line's board, which is answered, with the id of the line. No contract
     /// says what becomes of them.
@@ -66,13 +67,13 @@ pub trait Solver: Ruled {
         ensures { has_observed self.now id.now solved.now };
 }
 
-/// A solver, and the endings that are ready: of boards whose lines are not taken yet, the first one
-/// last.
+/// A solver, and boards whose lines are not taken yet, the first one last: each with its ending, if
+/// that is ready.
 #[derive(Drop)]
 pub(crate) struct Answerer<'a, A: Solver> {
     alloc: Global,
     solver: &'a A,
-    ready: Vec<(Board, Solved)>,
+    ready: Vec<(Board, Option<Solved>)>,
 }
 
 // A clause sees the solver: it may be called, and allows what is ready.
@@ -83,7 +84,7 @@ impl<'a, A: Solver> Model for Answerer<'a, A> {
 
     ghost invariant = { λ answerer. A.is_callable answerer.solver.now
         × AreAllowed (A.rules answerer.solver.now) answerer.ready.items
-        × All (λ it. A.has_stats answerer.solver.now it.0 it.1) answerer.ready.items };
+        × All (λ it. IfSome it.1 (A.has_stats answerer.solver.now it.0)) answerer.ready.items };
 }
 
 impl<'a, A: Solver> Answerer<'a, A> {
@@ -180,8 +181,8 @@ impl<'a, A: Solver> Answerer<'a, A> {
         self.solver.solve(start)
     }
 
-    // The ending that is ready next, if it is this board's. Else it is dropped, and its board is
-    // solved again when its line comes.
+    // The ending of the board that is next, if it is ready and the board is this one. The ending of
+    // another board is dropped: that board is solved again when its line comes.
     fn take_ready(&mut self, start: &Board) -> Option<Solved>
         ensures same { self.new ≡ self.old }
         ensures answered { IfSome result
@@ -192,7 +193,7 @@ impl<'a, A: Solver> Answerer<'a, A> {
             return None;
         };
         if next.0 == *start {
-            return Some(next.1);
+            return next.1;
         }
         None
     }

@@ -208,6 +208,14 @@ module _ (setup : SetupModel) (start : BoardModel) where
       of_class (inl together) = together
       of_class (inr other) = let parity : found.ending ≡ Unsolvable Parity = ap (λ (it : EndingWithFigures). it.ending) (ap (value_or found) (by_parity other)) in absurd (cc)
 
+  -- whatever bound it is
+  pub may_leave : (figures : Figures) (found : EndingWithFigures) → (¬ SameClass start setup.goal → ◌≡◌ {A = Result EndingWithFigures OutOfMemory} (Ok found) (Ok (record { ending = Unsolvable Parity; figures = figures }))) → ¬ IsNoBound found.ending → MayAnswer setup start None
+  may_leave figures found by_parity bound = of_class (one_class start setup.goal)
+    where
+      of_class : SameClass start setup.goal ⊎ (¬ SameClass start setup.goal) → SameClass start setup.goal
+      of_class (inl together) = together
+      of_class (inr other) = let parity : found.ending ≡ Unsolvable Parity = ap (λ (it : EndingWithFigures). it.ending) (ap (value_or found) (by_parity other)) in absurd (bound (subst IsNoBound (sym parity) tt))
+
   -- what they find with rows is what its rules allow too
   pub may_prove : (result : Result Outcome OutOfMemory) → (result ≡ Ok (outcome.Unsolvable Parity)) ↔ (¬ SameClass start setup.goal) → (SameClass start setup.goal → IfOk result (IsFound IsGiven without_rows setup start)) → IfOk result (Answers (task_of_setup setup start)) → IfOk result HasWholeRun → MayProve (certifying_rules_of setup) start result
   may_prove result by_parity run answered kept =

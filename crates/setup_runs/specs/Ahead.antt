@@ -1,5 +1,5 @@
 -- Boards that are solved before their lines are taken.
-use Rattle.std.specs.Prelude.{ℕ, ◌≡◌, All, Option, Some, Vec}
+use Rattle.std.specs.Prelude.{ℕ, ◌≡◌, All, IfSome, Option, Some, Vec}
 use Rattle.std.specs.declared.alloc.Global.{Global}
 use Rattle.board.specs.declared.moves.Move.{Move}
 use Rattle.board.specs.Shapes.{ShapeModel}
@@ -10,7 +10,7 @@ use Rattle.outcomes.specs.declared.outcome.Ending.TheVariants.{Bounded}
 use Rattle.outcomes.specs.declared.outcome.Want.{Want}
 use Rattle.batch_runs.specs.Setups.{SetupModel}
 use Rattle.setup_runs.specs.Solving.{MayAnswer, HasStats}
-use Rattle.setup_runs.specs.declared.ahead.Ended.{Ended}
+use Rattle.setup_runs.specs.declared.ahead.Tried.{Tried}
 
 -- the board has the sides of this grid
 abbrev pub HasSides : ShapeModel → BoardModel → Type 0
@@ -20,7 +20,10 @@ HasSides grid b = b.grid ≡ grid
 abbrev pub LacksMemory : Ending → Type 0
 LacksMemory ending = (bound : ℕ) × (best : Option (ℕ × Vec Move Global)) × (want : Want) × (ending ≡ Bounded bound best (Memory want))
 
--- each board of a lane may be answered by its ending, and has the stats of the search that gave it
-pub record AreEnded (setup : SetupModel) (lane : Vec Ended Global) : Type 0 where
-  pub each : All (λ it. MayAnswer setup it.board (Some it.solved.ending)) lane.items
-  pub stats : All (λ it. HasStats setup it.board it.solved) lane.items
+-- the board may be answered by its ending, which has the stats of the search that gave it; it may have none
+abbrev pub IsTried : SetupModel → Tried → Type 0
+IsTried setup it = IfSome it.solved (λ solved. MayAnswer setup it.board (Some solved.ending) × HasStats setup it.board solved)
+
+-- each board of a lane was tried so
+abbrev pub AreTried : SetupModel → Vec Tried Global → Type 0
+AreTried setup lane = All (IsTried setup) lane.items

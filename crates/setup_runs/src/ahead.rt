@@ -1,12 +1,15 @@
 //! Boards of several lines, which are solved side by side before their lines are taken.
 
-ghost use Rattle.std.specs.Prelude.{◌≡◌, ◌↔◌, ◌<◌, All, IfSome, IfNone, IfOk, IsTrue, Some, None};
+ghost use Rattle.std.specs.Prelude.{◌≡◌, ◌↔◌, ◌<◌, ◌≤◌, All, IfSome, IfOk, OnErr, IsErrOf, IsTrue, ◌⊎◌};
+ghost use Rattle.std.specs.Prelude.{IsFalse, Some, None};
 ghost use Rattle.batch_runs.specs.Batches.{AreAllowed};
 ghost use Rattle.batch_runs.specs.Setups.{SetupModel};
-ghost use Rattle.setup_runs.specs.Ahead.{HasSides, LacksMemory, AreEnded};
-ghost use Rattle.setup_runs.specs.Solving.{MayAnswer, HasStats, rules_of};
+ghost use Rattle.setup_runs.specs.Ahead.{HasSides, LacksMemory, IsTried, AreTried};
+ghost use Rattle.setup_runs.specs.Solving.{MayAnswer, IsNoBound, HasStats, rules_of};
+ghost use Rattle.setup_runs.specs.declared.ahead.Left.TheVariants.{TooHard};
+ghost use Rattle.setup_runs.specs.declared.ahead.TheConstants.{ENOUGH_EXPANDED};
 
-use crate::solving::{Question, job_for, solved_since};
+use crate::solving::{Question, TellsBounds, job_within, solved_since};
 use crate::watching::Watch;
 use batch_lines::{LineKind, LineReader, read_entry};
 use batch_runs::{Setup, Solved};
@@ -19,7 +22,7 @@ use owners::{ByBlank, Spread};
 use std::alloc::Global;
 use std::sync::{Mutex, Wait};
 use std::thread::{Threads, for_each_mut};
-use world_ends::WithFigures;
+use world_ends::{EndingWithFigures, WithFigures};
 
 // The most cells of a small board. One worker ends such a board sooner than several could begin it.
 const SMALL_CELLS: usize = 9;
@@ -32,16 +35,24 @@ const FEWEST_BOARDS: usize = 2;
 // The most lines that are looked at ahead.
 const MOST_LINES: u32 = 4096;
 
-// After this many expansions a thread takes no other board, so that reports come each second or so
-// where boards are solved in less time.
+// After this many expansions for one board a thread leaves it to all workers, and after as many for
+// all its boards it takes no other one. So reports come each second or so, whatever lines follow.
 const ENOUGH_EXPANDED: u64 = 2_000_000;
 
-/// A board with its ending and figures, and its place among those that are solved with it.
+/// A board that one worker tried, its place among those that are solved with it, and its ending
+/// with figures. A board without an ending is left to all workers.
 #[derive(Drop)]
-pub(crate) struct Ended {
+pub(crate) struct Tried {
     pub(crate) place: usize,
     pub(crate) board: Board,
-    pub(crate) solved: Solved,
+    pub(crate) solved: Option<Solved>,
+}
+
+// Why a board is left to all workers.
+#[derive(Clone, Copy)]
+enum Left {
+    TooHard,
+    NoMemory,
 }
 
 /// A board and those that the first whole lines among these bytes name, where they are worth
@@ -52,8 +63,9 @@ pub(crate) fn boards_ahead(
     question: &Question<'_>,
     held: &[u8],
 ) -> Option<Vec<Board>>
-    ensures { IfSome result
+    ensures sides { IfSome result
         (λ boards. All (HasSides question.now.setup.now.goal.grid) boards.items) }
+    ensures several { IfSome result (λ boards. 2 ≤ question.now.setup.now.workers) }
 {
     if question.setup.worker_count() == 1 {
         return None;
@@ -70,18 +82,20 @@ pub(crate) fn boards_ahead(
     Some(boards)
 }
 
-/// The endings of the first of these boards, up to one that has none, the first one last. Each
-/// board is solved by one worker; as many are under way at once as the setup has workers.
+/// The first of these boards with their endings, the first one last. Each is tried by one worker;
+/// as many are under way at once as the setup has workers. A board that is left to all workers has
+/// no ending.
 pub(crate) fn end_ahead<R: Threads + Wait + Sync, W: Watch + Sync>(
     rt: &R,
     alloc: Global,
     setup: &Setup,
     boards: &[Board],
     watch: &W,
-) -> Vec<(Board, Solved)>
-    requires { All (HasSides setup.now.goal.grid) boards.now }
+) -> Vec<(Board, Option<Solved>)>
+    requires sides { All (HasSides setup.now.goal.grid) boards.now }
+    requires several { 2 ≤ setup.now.workers }
     ensures allowed { AreAllowed (rules_of setup.now) result.items }
-    ensures stats { All (λ it. HasStats setup.now it.0 it.1) result.items }
+    ensures stats { All (λ it. IfSome it.1 (HasStats setup.now it.0)) result.items }
 {
     let threads = setup.worker_count();
     let Ok(made) = new_lanes(alloc, threads) else {
@@ -97,8 +111,8 @@ pub(crate) fn end_ahead<R: Threads + Wait + Sync, W: Watch + Sync>(
         watch,
         next: Mutex::new(0),
     };
-    end_boards(rt, &shared, threads, lanes);
-    take_endings(alloc, setup, boards.len(), lanes)
+    try_boards(rt, &shared, threads, lanes);
+    take_endings(alloc, setup, boards, lanes)
 }
 
 // What threads share that solve boards side by side: the boards, and the place of the first that
@@ -112,6 +126,7 @@ struct Shared<'a, R, W> {
     watch: &'a W,
     next: Mutex<usize>,
     ghost sides: { All (HasSides setup.now.goal.grid) boards.now },
+    ghost several: { 2 ≤ setup.now.workers },
 }
 
 // The bytes up to the last line feed.
@@ -172,9 +187,9 @@ fn board_in(shape: Shape, kind: LineKind, bytes: &[u8]) -> Option<Board>
     Some(entry.board)
 }
 
-// For each thread a list of what it ends, empty yet.
-fn new_lanes(alloc: Global, threads: usize) -> Result<Vec<Vec<Ended>>, OutOfMemory>
-    ensures { (setup : SetupModel) → IfOk result (λ lanes. All (AreEnded setup) lanes.items) }
+// For each thread a list of what it tries, empty yet.
+fn new_lanes(alloc: Global, threads: usize) -> Result<Vec<Vec<Tried>>, OutOfMemory>
+    ensures { (setup : SetupModel) → IfOk result (λ lanes. All (AreTried setup) lanes.items) }
 {
     let mut lanes = Vec::new(alloc);
     'threads: for _ in 0..threads {
@@ -183,61 +198,85 @@ fn new_lanes(alloc: Global, threads: usize) -> Result<Vec<Vec<Ended>>, OutOfMemo
     Ok(lanes)
 }
 
-// Solves boards, in a thread for each lane.
-fn end_boards<R: Threads + Wait + Sync, W: Watch + Sync>(
+// Tries boards, in a thread for each lane.
+fn try_boards<R: Threads + Wait + Sync, W: Watch + Sync>(
     rt: &R,
     shared: &Shared<'_, R, W>,
     threads: usize,
-    lanes: &mut [Vec<Ended>],
+    lanes: &mut [Vec<Tried>],
 )
     requires threads { 0 < threads }
-    requires lanes { All (AreEnded shared.now.setup.now) lanes.old }
-    ensures { All (AreEnded shared.now.setup.now) lanes.new }
+    requires lanes { All (AreTried shared.now.setup.now) lanes.old }
+    ensures { All (AreTried shared.now.setup.now) lanes.new }
 {
     for_each_mut(
         rt,
         lanes,
         threads,
-        &|_: usize, lane: &mut Vec<Ended>|
-            requires { AreEnded shared.now.setup.now lane.old }
-            ensures { AreEnded shared.entry.now.setup.now lane.new }
-        { end_in_turn(shared, lane) },
+        &|_: usize, lane: &mut Vec<Tried>|
+            requires { AreTried shared.now.setup.now lane.old }
+            ensures { AreTried shared.entry.now.setup.now lane.new }
+        { try_in_turn(shared, lane) },
     );
 }
 
-// Solves one board after the other, each the first that no thread has taken, and adds it to a lane,
-// until enough boards were expanded. Where memory is refused no thread takes another one.
-fn end_in_turn<R: Wait, W: Watch>(shared: &Shared<'_, R, W>, lane: &mut Vec<Ended>)
-    requires { AreEnded shared.now.setup.now lane.old }
-    ensures { AreEnded shared.now.setup.now lane.new }
+// Tries one board after the other, and adds it to a lane, until enough boards were expanded.
+fn try_in_turn<R: Wait, W: Watch>(shared: &Shared<'_, R, W>, lane: &mut Vec<Tried>)
+    requires { AreTried shared.now.setup.now lane.old }
+    ensures { AreTried shared.now.setup.now lane.new }
 {
     let mut expanded = 0u64;
     'boards: for _ in 0..shared.boards.len() {
         if expanded >= ENOUGH_EXPANDED {
             return;
         }
-        let place = take_next(shared.rt, &shared.next);
-        if place >= shared.boards.len() {
+        let Some(tried) = try_next(shared) else {
+            return;
+        };
+        expanded = expanded.saturating_add(expansions_of(&tried));
+        if push(lane, tried).is_err() {
             return;
         }
-        let board = shared.boards[place];
-        let question = Question {
-            setup: shared.setup,
-            start: &board,
-        };
-        let Some(solved) = end_alone(shared.alloc, &question, &ByBlank, shared.watch) else {
-            *shared.next.lock(shared.rt) = shared.boards.len();
-            return;
-        };
-        expanded = expanded.saturating_add(solved.stats.expanded);
-        let ended = Ended {
+    }
+}
+
+// Tries the first board that no thread has taken, if there is one. Where memory is refused no
+// thread takes another one.
+fn try_next<R: Wait, W: Watch>(shared: &Shared<'_, R, W>) -> Option<Tried>
+    ensures { IfSome result (IsTried shared.now.setup.now) }
+{
+    let place = take_next(shared.rt, &shared.next);
+    if place >= shared.boards.len() {
+        return None;
+    }
+    let board = shared.boards[place];
+    let question = Question {
+        setup: shared.setup,
+        start: &board,
+    };
+    match end_alone(shared.alloc, &question, &ByBlank, shared.watch) {
+        Ok(solved) => Some(Tried {
             place,
             board,
-            solved,
-        };
-        if push(lane, ended).is_err() {
-            return;
+            solved: Some(solved),
+        }),
+        Err(Left::TooHard) => Some(Tried {
+            place,
+            board,
+            solved: None,
+        }),
+        Err(Left::NoMemory) => {
+            *shared.next.lock(shared.rt) = shared.boards.len();
+            None
         }
+    }
+}
+
+// How many boards were expanded for one that was tried.
+fn expansions_of(tried: &Tried) -> u64 {
+    match &tried.solved {
+        Some(solved) => solved.stats.expanded,
+        None => ENOUGH_EXPANDED,
     }
 }
 
@@ -249,29 +288,49 @@ fn take_next<R: Wait>(rt: &R, next: &Mutex<usize>) -> usize {
     place
 }
 
-// The ending of a board by one worker, if memory sufficed: for a board that isn't in the goal's
-// class it always does. The worker owns all boards, whatever they are spread by.
+// The ending of a board by one worker. The worker owns all boards, whatever they are spread by. The
+// error says why the board is left to all workers, which is never so outside the goal's class.
 fn end_alone<S: Spread, W: Watch>(
     alloc: Global,
     question: &Question<'_>,
     spread: &S,
     watch: &W,
-) -> Option<Solved>
-    ensures some { IfSome result (λ solved.
+) -> Result<Solved, Left>
+    requires { 2 ≤ question.now.setup.now.workers }
+    ensures ok { IfOk result (λ solved.
         MayAnswer question.now.setup.now question.now.start.now (Some solved.ending)) }
-    ensures whole { IfSome result (λ solved. ¬ LacksMemory solved.ending) }
-    ensures none { IfNone result (MayAnswer question.now.setup.now question.now.start.now None) }
-    ensures stats { IfSome result (HasStats question.now.setup.now question.now.start.now) }
+    ensures whole { IfOk result (λ solved. ¬ LacksMemory solved.ending) }
+    ensures left { OnErr result (MayAnswer question.now.setup.now question.now.start.now None) }
+    ensures hard { IsErrOf result TooHard → ENOUGH_EXPANDED < question.now.setup.now.limit }
+    ensures stats { IfOk result (HasStats question.now.setup.now question.now.start.now) }
 {
     let begun = watch.microseconds();
-    let job = job_for(question);
+    let limit = question.setup.expansion_limit().min(ENOUGH_EXPANDED);
+    let job = job_within(question, limit);
     let Ok(found) = read_one::<WithFigures, S, W>(alloc, job, spread, watch) else {
-        return None;
+        return Err(Left::NoMemory);
     };
     if lacked_memory(&found.ending) {
-        return None;
+        return Err(Left::NoMemory);
     }
-    Some(solved_since(begun, question, found, watch))
+    if is_too_hard(question.setup, limit, &found) {
+        return Err(Left::TooHard);
+    }
+    Ok(solved_since(begun, question, found, watch))
+}
+
+// Whether one worker ended at a limit that is lower than the setup's.
+fn is_too_hard(setup: &Setup, limit: u64, found: &EndingWithFigures) -> bool
+    requires several { 2 ≤ setup.now.workers }
+    requires within { limit ≤ setup.now.limit }
+    ensures yes { IsTrue result → (limit < setup.now.limit) × (¬ IsNoBound found.now.ending) }
+    ensures no { IsFalse result → (limit ≡ setup.now.limit)
+        ⊎ ((2 ≤ setup.now.workers) × IsNoBound found.now.ending) }
+{
+    if limit == setup.expansion_limit() {
+        return false;
+    }
+    WithFigures::is_bound(found)
 }
 
 // Whether a bound was answered as memory was refused.
@@ -284,37 +343,50 @@ fn lacked_memory(ending: &Ending) -> bool
     }
 }
 
-// The endings of the first of these boards, up to one that has none, the first one last. In each
-// lane they are in rising order of their places.
+// The first of these boards with their endings, up to the last that was tried, the first one last.
+// In each lane they are in rising order of their places.
 fn take_endings(
     alloc: Global,
     setup: &Setup,
-    count: usize,
-    lanes: &mut [Vec<Ended>],
-) -> Vec<(Board, Solved)>
-    requires { All (AreEnded setup.now) lanes.old }
+    boards: &[Board],
+    lanes: &mut [Vec<Tried>],
+) -> Vec<(Board, Option<Solved>)>
+    requires { All (AreTried setup.now) lanes.old }
     ensures allowed { AreAllowed (rules_of setup.now) result.items }
-    ensures stats { All (λ it. HasStats setup.now it.0 it.1) result.items }
+    ensures stats { All (λ it. IfSome it.1 (HasStats setup.now it.0)) result.items }
 {
     let mut ready = Vec::new(alloc);
-    'places: for place in (0..count).rev() {
-        let Some(ended) = take_ended(setup, place, lanes) else {
-            ready.clear();
+    'places: for place in (0..boards.len()).rev() {
+        let tried = take_tried(setup, place, lanes);
+        if tried.is_none() && ready.is_empty() {
             continue;
-        };
-        if push(&mut ready, (ended.board, ended.solved)).is_err() {
+        }
+        if push(&mut ready, entry_of(setup, tried, boards[place])).is_err() {
             return Vec::new(alloc);
         }
     }
     ready
 }
 
+// A board that was tried, with its ending, or else this one without.
+fn entry_of(setup: &Setup, tried: Option<Tried>, board: Board) -> (Board, Option<Solved>)
+    requires { IfSome tried (IsTried setup.now) }
+    ensures ending { IfSome result.1
+        (λ solved. MayAnswer setup.now result.0 (Some solved.ending)) }
+    ensures stats { IfSome result.1 (HasStats setup.now result.0) }
+{
+    let _ = setup;
+    match tried {
+        Some(tried) => (tried.board, tried.solved),
+        None => (board, None),
+    }
+}
+
 // Takes the board with a place from the lane that ends with it, if one does.
-fn take_ended(setup: &Setup, place: usize, lanes: &mut [Vec<Ended>]) -> Option<Ended>
-    requires { All (AreEnded setup.now) lanes.old }
-    ensures lanes { All (AreEnded setup.now) lanes.new }
-    ensures ended { IfSome result (λ it. MayAnswer setup.now it.board (Some it.solved.ending)) }
-    ensures stats { IfSome result (λ it. HasStats setup.now it.board it.solved) }
+fn take_tried(setup: &Setup, place: usize, lanes: &mut [Vec<Tried>]) -> Option<Tried>
+    requires { All (AreTried setup.now) lanes.old }
+    ensures lanes { All (AreTried setup.now) lanes.new }
+    ensures tried { IfSome result (IsTried setup.now) }
 {
     let _ = setup;
     'lanes: for lane in 0..lanes.len() {
@@ -326,9 +398,9 @@ fn take_ended(setup: &Setup, place: usize, lanes: &mut [Vec<Ended>]) -> Option<E
 }
 
 // Whether the last board of a lane has this place.
-fn ends_with(lane: &[Ended], place: usize) -> bool {
+fn ends_with(lane: &[Tried], place: usize) -> bool {
     match lane.last() {
-        Some(ended) => ended.place == place,
+        Some(tried) => tried.place == place,
         None => false,
     }
 }

@@ -1,6 +1,6 @@
 //! Batches of a setup.
 
-ghost use Rattle.std.specs.Prelude.{◌≡◌, ◌⊎◌, All, IfOk};
+ghost use Rattle.std.specs.Prelude.{◌≡◌, ◌⊎◌, All, IfOk, IfSome};
 ghost use Rattle.byte_streams.specs.Streams.{change};
 ghost use Rattle.batch_runs.specs.Batches.{ReportsLines, HasFailed, MayGive, AreAllowed};
 ghost use Rattle.batch_runs.specs.Headline.{IsTrueRun};
@@ -38,7 +38,7 @@ impl<'a, F, P, W> Ruled for Guided<'a, F, P, W> {
 impl<
     'a,
     F: Fn(&Board) -> Result<Solved, OutOfMemory>,
-    P: Fn(&Board, &[u8]) -> Vec<(Board, Solved)>,
+    P: Fn(&Board, &[u8]) -> Vec<(Board, Option<Solved>)>,
     W: Watch,
 > Solver for Guided<'a, F, P, W> {
     ghost is_callable = { λ guided.
@@ -52,7 +52,7 @@ impl<
         × ((start held result : _) → start.now.grid ≡ guided.setup.now.goal.grid
         → P.post guided.ahead start held result
         → AreAllowed (rules_of guided.setup.now) result.items
-        × All (λ it. HasStats guided.setup.now it.0 it.1) result.items) };
+        × All (λ it. IfSome it.1 (HasStats guided.setup.now it.0)) result.items) };
 
     ghost has_stats = { λ guided b solved. HasStats guided.setup.now b solved };
 
@@ -66,7 +66,7 @@ impl<
         (self.solve)(start)
     }
 
-    fn solve_ahead(&self, start: &Board, held: &[u8]) -> Vec<(Board, Solved)> {
+    fn solve_ahead(&self, start: &Board, held: &[u8]) -> Vec<(Board, Option<Solved>)> {
         (self.ahead)(start, held)
     }
 
@@ -81,10 +81,10 @@ impl<
 /// setup's limit. One worker searches in the calling thread, more in threads of their own, which
 /// all end before the next line is read. The gate is passed after each of their steps.
 ///
-/// Where a setup has several workers and the source holds several lines, their boards are solved
-/// side by side, each by one worker. Their lines are taken, and their reports written, one after
-/// the other. A line that comes alone is solved by one worker if its board is easy, and else by
-/// all.
+/// Where a setup has several workers and the source holds several lines, their boards are tried
+/// side by side, each by one worker. Then their lines are taken one after the other, and a board
+/// that was too hard for one worker is solved by all. A line that comes alone is solved by one
+/// worker if its board is easy, and else by all.
 ///
 /// The sink is flushed after each report, so that whoever waits for one has it; nothing is flushed
 /// for a line that is passed over.
@@ -138,10 +138,10 @@ pub fn run_watched<R: Threads + Wait + Sync, S: Source, K: Sink, W: Watch + Sync
         ensures { MayGive (rules_of setup.entry.now) start.now result
             × IfOk result (HasStats setup.entry.now start.now) }
     { solve_board(rt, alloc, &Question { setup, start }, watch) };
-    let ahead = |start: &Board, held: &[u8]| -> Vec<(Board, Solved)>
+    let ahead = |start: &Board, held: &[u8]| -> Vec<(Board, Option<Solved>)>
         requires { start.now.grid ≡ setup.now.goal.grid }
         ensures { AreAllowed (rules_of setup.entry.now) result.items
-            × All (λ it. HasStats setup.entry.now it.0 it.1) result.items }
+            × All (λ it. IfSome it.1 (HasStats setup.entry.now it.0)) result.items }
     {
         match boards_ahead(alloc, &Question { setup, start }, held) {
             Some(boards) => end_ahead(rt, alloc, setup, boards.as_slice(), watch),

@@ -202,15 +202,15 @@ fn answer_spread<A: Reading, R: Threads + Wait + Sync, S: Spread + Sync, G: Gate
     search_by_workers::<A, R, S, G>(rt, alloc, search, gate)
 }
 
-/// The job of a board: the setup says the rest.
-pub(crate) fn job_for<'a>(question: &Question<'a>) -> Job<'a>
+// The job of a board: the setup says the rest.
+fn job_for<'a>(question: &Question<'a>) -> Job<'a>
     ensures { result ≡ problem_of question.now.setup.now question.now.start.now }
 {
     job_within(question, question.setup.expansion_limit())
 }
 
-// The same with a limit of its own.
-fn job_within<'a>(question: &Question<'a>, limit: u64) -> Job<'a>
+/// The job of a board with a limit of its own.
+pub(crate) fn job_within<'a>(question: &Question<'a>, limit: u64) -> Job<'a>
     ensures { result ≡ problem_within limit question.now.setup.now question.now.start.now }
 {
     let setup = question.setup;

@@ -59,7 +59,7 @@ impl Solver for ByBlank {
         Ok(Solved { ending, stats })
     }
 
-    fn solve_ahead(&self, _start: &Board, _held: &[u8]) -> Vec<(Board, Solved)> {
+    fn solve_ahead(&self, _start: &Board, _held: &[u8]) -> Vec<(Board, Option<Solved>)> {
         Vec::new(self.alloc)
     }
 
