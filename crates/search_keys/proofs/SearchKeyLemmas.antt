@@ -13,9 +13,9 @@ use Rattle.std.proofs.lemmas.Nat.{div-mul-add, mod-mul-add, mul-le, pow_pos}
 use Rattle.board.specs.Shapes.{ShapeModel, IsShape, cell_count}
 use Rattle.board.specs.Boards.{BoardModel, IsBoard, cell_of, blank_of}
 use Rattle.board.specs.declared.moves.Move.{Move}
-use Rattle.board.specs.Weights.{WeightsModel}
+use Rattle.board.specs.Weights.{WeightsModel, weight_of}
 use Rattle.board.specs.Neighbours.{neighbour}
-use Rattle.board.specs.Moves.{Moves, blank_exchange}
+use Rattle.board.specs.Moves.{Moves, blank_exchange, successor}
 use Rattle.board.proofs.TileLemmas.{cell_is, has_cell, all_differ, across}
 use Rattle.board.proofs.MoveLemmas.{cell_of-exchange, exchange_board, other_cell, cell_below, blank_after}
 use Rattle.board.proofs.NeighbourLemmas.{cells_above, neighbour_lies}
@@ -558,3 +558,9 @@ numbers_all b written n board long all are =
     get_or-take (cell_count b.grid) written c 0 within
     ∙ ap (λ (j : ℕ). get_or written j 0) (sym there)
     ∙ are tile (omega (arith, low, all)))
+
+-- the board with the search key of an exchange is the one that the move leads to
+pub stepped : (rule : WeightsModel) (b moved : BoardModel) (m : Move) (to key cost : ℕ) → neighbour b.grid m (blank_of b) ≡ Some to → key ≡ search_key (blank_exchange b to) → IsBoard (blank_exchange b to) → HasSearchKey b.grid key moved → cost ≡ weight_of rule (slice_index b.tiles to) → Some (moved, cost) ≡ successor rule b m
+stepped rule b moved m to key cost found is board has paid =
+    let same : moved ≡ blank_exchange b to = one_board moved (blank_exchange b to) has.board board has.sides (has.packed ∙ is) in
+    rw (found, same, paid) refl

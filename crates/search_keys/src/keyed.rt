@@ -1,13 +1,12 @@
 //! Boards known by their search keys.
 
-ghost use Rattle.std.specs.Prelude.{ℕ, ◌≡◌, ◌+◌, ◌<◌, ◌≤◌, ◌↔◌, Some, IsTrue};
+ghost use Rattle.std.specs.Prelude.{ℕ, ◌≡◌, ◌+◌, ◌<◌, ◌≤◌, ◌↔◌, Some, IfSome, IsTrue};
 ghost use Rattle.std.specs.Prelude.{slice_index, take, length, map};
 ghost use Rattle.std.specs.List.{range_with_len};
-ghost use Rattle.board.specs.declared.moves.Move.{Move};
 ghost use Rattle.board.specs.Shapes.{cell_count};
 ghost use Rattle.board.specs.Boards.{BoardModel, IsBoard, blank_of, cell_of, goal_of};
 ghost use Rattle.board.specs.Neighbours.{neighbour};
-ghost use Rattle.board.specs.Moves.{blank_exchange};
+ghost use Rattle.board.specs.Moves.{Moves, blank_exchange, successor};
 ghost use Rattle.pattern_index.specs.Sparse.{sparse_of};
 ghost use Rattle.search_keys.specs.SearchKeys.{search_key, HasSearchKey};
 
@@ -15,7 +14,7 @@ use crate::digits::{
     long_digit, long_exchanged, long_number, long_place, short_digit, short_digits,
     short_exchanged, short_number, short_place, write_long, write_short,
 };
-use board::{Board, Shape};
+use board::{Board, Move, Shape, Weights};
 use pattern_index::cells_of;
 use std::marker::Model;
 
@@ -215,6 +214,22 @@ impl KeyedBoard {
         }
         let key = long_exchanged(self.key, place, blank as u128, to as u128);
         Slid { key, tile }
+    }
+
+    /// The board after a move and the weight of the tile moved, or None where the blank would leave
+    /// the board: as `Board::step` answers.
+    pub fn step(&self, direction: Move, weights: &Weights) -> Option<(KeyedBoard, u32)>
+        requires { weights.now.grid ≡ self.now.grid }
+        ensures moves { (b : BoardModel) (cost : ℕ) →
+            (result ≡ Some (b, cost)) ↔ Moves weights.now self.now direction b cost }
+        ensures value { result ≡ successor weights.now self.now direction }
+        ensures low { IfSome result (λ moved. 1 ≤ moved.1) }
+    {
+        let shape = self.shape();
+        let to = shape.neighbour(self.blank(), direction)?;
+        let slid = self.slide(to);
+        let board = KeyedBoard::of_key(shape, slid.key);
+        Some((board, weights.of(slid.tile)))
     }
 
     /// The board itself.

@@ -18,7 +18,7 @@ use worker_core::Worker;
 use world_model::Known;
 
 // The owner of a board among `workers`. One alone owns all boards.
-fn owner_among<S: Spread>(owners: &S, board: &Board, workers: usize) -> usize
+fn owner_among<S: Spread>(owners: &S, board: &KeyedBoard, workers: usize) -> usize
     requires { 0 < workers }
     ensures value { result ≡ S.owner_of owners.now workers board.now }
     ensures within { result < workers }
@@ -26,7 +26,7 @@ fn owner_among<S: Spread>(owners: &S, board: &Board, workers: usize) -> usize
     if workers == 1 {
         return 0;
     }
-    owners.owner(board, workers)
+    owners.owner_by_key(board, workers)
 }
 
 // What the owner of a board knows of it.
@@ -38,8 +38,20 @@ pub(crate) fn known_of<C: Counting, S: Spread>(
     requires { 0 < length workers.now }
     ensures { result ≡ known_in (S.owner_of owners.now) (states_of workers.now) board.now }
 {
+    known_by_key(owners, workers, &KeyedBoard::new(board))
+}
+
+// The same of a board by its search key.
+fn known_by_key<C: Counting, S: Spread>(
+    owners: &S,
+    workers: &[Worker<C>],
+    board: &KeyedBoard,
+) -> Option<Known>
+    requires { 0 < length workers.now }
+    ensures { result ≡ known_in (S.owner_of owners.now) (states_of workers.now) board.now }
+{
     let owner = owner_among(owners, board, workers.len());
-    workers[owner].lists().get(KeyedBoard::new(board).key())
+    workers[owner].lists().get(board.key())
 }
 
 // The plan by which the goal was reached, followed back by last moves, and its cost. No memory is
@@ -61,9 +73,10 @@ pub(crate) fn plan_back<C: Counting, S: Spread>(
 {
     let mut backwards = Vec::new(alloc);
     let mut cost = 0;
-    let mut board = asked.goal;
+    let start = KeyedBoard::new(&asked.start);
+    let mut board = KeyedBoard::new(&asked.goal);
     let mut here = reached;
-    'boards: while board != asked.start {
+    'boards: while board != start {
         let before = step_back(asked, owners, workers, &board, here);
         push(&mut backwards, here.via)?;
         cost += before.1;
@@ -80,9 +93,9 @@ fn step_back<C: Counting, S: Spread>(
     asked: &Asked<'_>,
     owners: &S,
     workers: &[Worker<C>],
-    board: &Board,
+    board: &KeyedBoard,
     here: Known,
-) -> (Board, u32, Known)
+) -> (KeyedBoard, u32, Known)
     requires some { 0 < length workers.now }
     requires costs { asked.now.weights.grid ≡ board.now.grid }
     requires reached { (before : BoardModel) × (cost : ℕ) × (there : Known)
@@ -93,6 +106,6 @@ fn step_back<C: Counting, S: Spread>(
     ensures low { 1 ≤ result.1 }
 {
     let before = board.step(here.via.undo(), &asked.weights).unwrap();
-    let there = known_of(owners, workers, &before.0).unwrap();
+    let there = known_by_key(owners, workers, &before.0).unwrap();
     (before.0, before.1, there)
 }

@@ -13,7 +13,7 @@ use Rattle.world_ends.proofs.plan.plan_back.Goals as goal
 pub step_back-before-requires-clause-reached : goal.step_back-before-requires-clause-reached
 step_back-before-requires-clause-reached g c κs within =
     let now = c.boards.invariant in
-    before_is (task_asked c.args.asked.now) (g.S.Spread.owner_of c.args.owners.now) (states_of c.args.workers.now) c.requires.world.0 c.requires.world.1 c.boards.board c.boards.here now.board now.found (differs c.boards.board c.args.asked.now.start (sym c.boards-test.true ∙ c.ne.ensures))
+    before_is (task_asked c.args.asked.now) (g.S.Spread.owner_of c.args.owners.now) (states_of c.args.workers.now) c.requires.world.0 c.requires.world.1 c.boards.board c.boards.here now.board now.found (differs c.boards.board c.args.asked.now.start (sym c.boards-test.true ∙ (rw c.new-start.ensures at c.ne.ensures)))
 
 pub boards-preserved : goal.boards-preserved
 boards-preserved g c =
@@ -33,17 +33,17 @@ boards-preserved g c =
       found = back.before.known;
       leads = subst (λ (ms : List Move). Leads c.args.asked.now.weights before ms c.args.asked.now.goal (c.boards.cost + cost)) (sym more) leads;
       within = omega (arith, now.within, back.before.cheaper);
-      still = λ same. absurd (differs c.boards.board c.args.asked.now.start (sym c.boards-test.true ∙ c.ne.ensures) (now.still same));
+      still = λ same. absurd (differs c.boards.board c.args.asked.now.start (sym c.boards-test.true ∙ (rw c.new-start.ensures at c.ne.ensures)) (now.still same));
       traced = λ w parts. subst (λ (ms : List Move). IsByLastMoves w before ms c.args.asked.now.goal) (sym more) (traced w parts);
     }
 
 pub returns-in_err-push-clause-free : goal.returns-in_err-push-clause-free
-returns-in_err-push-clause-free g c same = absurd (differs c.boards.board c.args.asked.now.start (sym c.boards-test.true ∙ c.ne.ensures) (c.boards.invariant.still same))
+returns-in_err-push-clause-free g c same = absurd (differs c.boards.board c.args.asked.now.start (sym c.boards-test.true ∙ (rw c.new-start.ensures at c.ne.ensures)) (c.boards.invariant.still same))
 
 pub returns-clause-plan : goal.returns-clause-plan
 returns-clause-plan g c =
     let now = c.boards.invariant in
-    let start : c.boards.board ≡ c.args.asked.now.start = same_as c.boards.board c.args.asked.now.start (sym c.boards-test.false ∙ c.ne.ensures) in
+    let start : c.boards.board ≡ c.args.asked.now.start = same_as c.boards.board c.args.asked.now.start (sym c.boards-test.false ∙ (rw c.new-start.ensures at c.ne.ensures)) in
     let is = c.reverse.ensures.items in
     record {
       leads = subst (λ (ms : List Move). Leads c.args.asked.now.weights c.args.asked.now.start ms c.args.asked.now.goal c.boards.cost) (sym is) (subst (λ (b : BoardModel). Leads c.args.asked.now.weights b (reverse c.boards.backwards.items) c.args.asked.now.goal c.boards.cost) start now.leads);

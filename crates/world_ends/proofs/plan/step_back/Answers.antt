@@ -20,7 +20,7 @@ unwrap-there-requires g c =
     let is : c.step.result ≡ Some (has.0, has.1) = stepped_back c.args.asked.now.weights c.args.board.now c.args.here.via c.undo.result c.step.result has.0 has.1 c.undo.ensures c.step.ensures.moves has.3.board.0 has.3.moves in
     let same = some_is c.step.result c.unwrap-before.result (has.0, has.1) c.unwrap-before.ensures is in
     let at = known_in (g.S.Spread.owner_of c.args.owners.now) (states_of c.args.workers.now) in
-    let there : c.known_of.result ≡ Some has.2 = found_before at c.known_of.result c.unwrap-before.result (has.0, has.1) has.2 c.known_of.ensures same has.3.known in
+    let there : c.known_by_key.result ≡ Some has.2 = found_before at c.known_by_key.result c.unwrap-before.result (has.0, has.1) has.2 c.known_by_key.ensures same has.3.known in
     rw there refl
 
 pub returns-clause-before : goal.returns-clause-before
@@ -29,12 +29,12 @@ returns-clause-before g c =
     let is : c.step.result ≡ Some (has.0, has.1) = stepped_back c.args.asked.now.weights c.args.board.now c.args.here.via c.undo.result c.step.result has.0 has.1 c.undo.ensures c.step.ensures.moves has.3.board.0 has.3.moves in
     let same = some_is c.step.result c.unwrap-before.result (has.0, has.1) c.unwrap-before.ensures is in
     let at = known_in (g.S.Spread.owner_of c.args.owners.now) (states_of c.args.workers.now) in
-    let there : c.known_of.result ≡ Some has.2 = found_before at c.known_of.result c.unwrap-before.result (has.0, has.1) has.2 c.known_of.ensures same has.3.known in
+    let there : c.known_by_key.result ≡ Some has.2 = found_before at c.known_by_key.result c.unwrap-before.result (has.0, has.1) has.2 c.known_by_key.ensures same has.3.known in
     let cost : c.unwrap-there.result.cost ≡ has.2.cost = ap (λ (o : Option Known). (unwrap_or o has.2).cost) (sym c.unwrap-there.ensures ∙ there) in
     let paid : c.unwrap-before.result.1 ≡ has.1 = ap (λ (p : BoardModel × ℕ). p.1) same in
     record {
       board = subst (λ (p : BoardModel × ℕ). IsTaskBoard (task_asked c.args.asked.now) p.0) (sym same) has.3.board;
       moves = subst (λ (p : BoardModel × ℕ). Moves c.args.asked.now.weights p.0 c.args.here.via c.args.board.now p.1) (sym same) has.3.moves;
-      known = known_by_answer c.known_of.result (at c.unwrap-before.result.0) c.unwrap-there.result c.known_of.ensures c.unwrap-there.ensures;
+      known = known_by_answer c.known_by_key.result (at c.unwrap-before.result.0) c.unwrap-there.result c.known_by_key.ensures c.unwrap-there.ensures;
       cheaper = omega (arith, cost, paid, has.3.cheaper);
     }
