@@ -13,8 +13,8 @@ use Rattle.board.specs.Weights.{WeightsModel}
 use Rattle.board.specs.Moves.{Moves}
 use Rattle.board.specs.Plans.{Leads}
 use Rattle.board.specs.Classes.{inversions, taxicab, SameClass}
-use Rattle.board.proofs.TileLemmas.{has_cell, same_place}
-use Rattle.board.proofs.MoveLemmas.{cell_below, other_cell, moved_board, blank_after}
+use Rattle.board.proofs.TileLemmas.{across, has_cell, same_place}
+use Rattle.board.proofs.MoveLemmas.{cell_below, other_cell, moved_board, blank_after, exchange, cell_of-exchange}
 
 -- 1 if x is below y
 below : ℕ → ℕ → ℕ
@@ -121,6 +121,21 @@ inversions_turn rule b board m b' c moves =
     let turned = exchanged b.tiles i j 0 i_in j_in (λ e. other (sym e)) (λ x y x_in y_in ne same. ne (same_place b.tiles board.different x y x_in y_in same)) in
     let is : b'.tiles ≡ swapped b.tiles i j 0 = ap (λ p. p.tiles) moves.after ∙ sym (swap_is b.tiles i j 0 i_in j_in) in
     rw is turned
+
+-- an exchange of two tiles changes the class
+pub class_changed : (b : BoardModel) (i j : ℕ) (q : BoardModel) → IsBoard b → i < cell_count b.grid → j < cell_count b.grid → i ≢ j → i ≢ blank_of b → j ≢ blank_of b → SameClass (exchange b i j) q ↔ (¬ SameClass b q)
+unfolding swapped
+class_changed b i j q board i_below j_below apart i_tile j_tile =
+    let n = board.one_each in
+    let i_in : i < length b.tiles = omega arith in
+    let j_in : j < length b.tiles = omega arith in
+    let turned = exchanged b.tiles i j 0 i_in j_in apart (λ x y x_in y_in ne same. ne (same_place b.tiles board.different x y x_in y_in same)) in
+    let is = swap_is b.tiles i j 0 i_in j_in in
+    let odd : (inversions b.tiles + inversions (exchange b i j).tiles) % 2 ≡ 1 = rw (sym is) turned in
+    let stays : across i j (blank_of b) ≡ blank_of b = grind (arith, nat_tests) in
+    let blank : blank_of (exchange b i j) ≡ blank_of b = cell_of-exchange b i j board i_below j_below 0 (omega arith) ∙ stays in
+    let far : taxicab (exchange b i j).grid (blank_of (exchange b i j)) (blank_of q) ≡ taxicab b.grid (blank_of b) (blank_of q) = rw blank refl in
+    ((λ one other. omega arith), (λ no. omega (arith, no)))
 
 -- a move keeps the class
 pub same_class_kept : (rule : WeightsModel) (b : BoardModel) → IsBoard b → (m : Move) (b' : BoardModel) (c : ℕ) → Moves rule b m b' c → (q : BoardModel) → SameClass b q ↔ SameClass b' q

@@ -4,7 +4,6 @@ pub mod NeighbourLemmas
 pub mod RowLemmas
 pub mod ClassLemmas
 pub mod PlanLemmas
-pub mod FaultLemmas
 pub mod StorageLemmas
 pub mod StepLemmas
 pub mod GoalLemmas

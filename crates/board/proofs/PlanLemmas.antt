@@ -3,8 +3,9 @@ use Rattle.std.proofs.Common.{◌≡◌, ℕ, zero, suc, ◌+◌, ◌*◌, ◌<�
 use Rattle.std.specs.Prelude.{slice_get, ◌↔◌}
 use Rattle.std.specs.Result.{result_unwrap_or}
 use Rattle.std.proofs.lemmas.List.{take_more, take_all}
-use Rattle.std.proofs.lemmas.Option.{slice_get_within, get_or_from_slice_get}
+use Rattle.std.proofs.lemmas.Option.{slice_get_within, slice_get-get_or, get_or_from_slice_get}
 use Rattle.board.specs.declared.moves.Move.{Move}
+use Rattle.board.specs.declared.moves.Move.TheVariants.{U}
 use Rattle.board.specs.Boards.{BoardModel, IsBoard}
 use Rattle.board.specs.Weights.{WeightsModel}
 use Rattle.board.specs.Moves.{Moves}
@@ -121,3 +122,36 @@ led_here rule start plan place b cost followed end = subst (λ (ms : List Move).
 -- no move is possible at this place
 pub stuck_here : (rule : WeightsModel) (start : BoardModel) (plan : List Move) (place : ℕ) (b : BoardModel) (cost : ℕ) (m : Move) → IsFollowed rule start plan place b cost → slice_get plan place ≡ Some m → ((next : BoardModel) (c : ℕ) → ¬ Moves rule b m next c) → IsStuckAt rule start plan place
 stuck_here rule start plan place b cost m followed at none = (b, cost, m, followed.leads, at, none)
+
+-- a plan without its last move leads somewhere, and that move leads on from there
+last_move : (rule : WeightsModel) (b : BoardModel) (plan : List Move) (m : Move) (q : BoardModel) (k : ℕ) → Leads rule b (plan ++ m ∷ []) q k → (here : BoardModel) × (i c : ℕ) × Leads rule b plan here i × Moves rule here m q c
+last_move rule b [] m q k leads = (b, 0, leads.1, (refl, refl), subst (λ (x : BoardModel). Moves rule b m x leads.1) (sym leads.4.0) leads.3)
+last_move rule b (n ∷ plan) m q k leads =
+    let rest = last_move rule leads.0 plan m q leads.2 leads.4 in
+    (rest.0, leads.1 + rest.1, rest.2, (leads.0, leads.1, rest.1, leads.3, rest.3, refl), rest.4)
+
+-- a plan is stuck at a place exactly where the moves before it lead somewhere, and with the move there they lead nowhere
+pub stuck_there : (rule : WeightsModel) (b : BoardModel) (plan : List Move) (place : ℕ) → IsStuckAt rule b plan place ↔ ((place < length plan) × ((here : BoardModel) × (k : ℕ) × Leads rule b (take place plan) here k) × ((q : BoardModel) (j : ℕ) → ¬ Leads rule b (take (place + 1) plan) q j))
+stuck_there rule b plan place = (
+  (λ stuck_at.
+      let (here, k, m, begins, at, stuck) = stuck_at in
+      let within : place < length plan = slice_get_within plan place m at in
+      let more : take (place + 1) plan ≡ take place plan ++ m ∷ [] = take_more plan place m within ∙ ap (λ (d : Move). take place plan ++ d ∷ []) (get_or_from_slice_get plan place m m at) in (
+        within,
+        (here, k, begins),
+        (λ q j leads.
+            let last = last_move rule b (take place plan) m q j (subst (λ (ms : List Move). Leads rule b ms q j) more leads) in
+            let one = one_end rule b (take place plan) here last.0 k last.1 begins last.3 in
+            stuck q last.2 (subst (λ (x : BoardModel). Moves rule x m q last.2) one.0 last.4)),
+      )),
+  (λ ends.
+      let (within, before, nowhere) = ends in
+      let more : take (place + 1) plan ≡ take place plan ++ get_or plan place U ∷ [] = take_more plan place U within in (
+        before.0,
+        before.1,
+        get_or plan place U,
+        before.2,
+        slice_get-get_or plan place U within,
+        (λ next c moves. nowhere next (before.1 + c) (subst (λ (ms : List Move). Leads rule b ms next (before.1 + c)) (sym more) (one_more rule b (take place plan) before.0 before.1 (get_or plan place U) next c before.2 moves))),
+      )),
+)

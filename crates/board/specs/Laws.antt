@@ -1,14 +1,14 @@
 -- The laws of letters, moves, costs, plans, classes, keys and rows.
-use Rattle.std.specs.Prelude.{ℕ, ◌≡◌, ◌+◌, ◌-◌, ◌^◌, ◌<◌, ◌↔◌, List, ◌++◌, take, drop, replicate, Some}
+use Rattle.std.specs.Prelude.{ℕ, ◌≡◌, ◌≢◌, ◌+◌, ◌-◌, ◌^◌, ◌<◌, ◌↔◌, List, ◌++◌, length, take, drop, replicate, swap, Some}
 use Rattle.std.specs.List.{range_with_len}
 use Rattle.board.specs.declared.moves.Move.{Move}
 use Rattle.board.specs.Shapes.{ShapeModel, IsShape, cell_count}
 use Rattle.board.specs.Letters.{letter_of, move_of_letter}
 use Rattle.board.specs.Neighbours.{LiesTowards, neighbour, opposite}
-use Rattle.board.specs.Boards.{BoardModel, IsBoard}
+use Rattle.board.specs.Boards.{BoardModel, IsBoard, blank_of}
 use Rattle.board.specs.Weights.{WeightsModel, AreWeights, listed_rule, unit_rule, face_rule}
 use Rattle.board.specs.Moves.{Moves, successor}
-use Rattle.board.specs.Plans.{Leads, NothingBelow, IsLeast}
+use Rattle.board.specs.Plans.{Leads, NothingBelow, IsLeast, IsStuckAt}
 use Rattle.board.specs.Classes.{SameClass}
 use Rattle.board.specs.Keys.{key_of, Precedes}
 use Rattle.board.specs.Rows.{Proves, IsLowerBound}
@@ -69,6 +69,28 @@ MovesKeepTheClass = (rule : WeightsModel) (b : BoardModel) (m : Move) (b' : Boar
 -- where a plan leads from b to q they are in one class
 abbrev pub PlansKeepTheClass : Type 0
 PlansKeepTheClass = (rule : WeightsModel) (b : BoardModel) (plan : List Move) (q : BoardModel) (k : ℕ) → IsBoard b → Leads rule b plan q k → SameClass b q
+
+-- Where two tiles of a board change places, exactly one of the two boards is in the class of q. Moves and such exchanges together lead to
+-- every board of a grid, so this and the laws above leave no other test for classes.
+abbrev pub ExchangesChangeTheClass : Type 0
+ExchangesChangeTheClass =
+    (b : BoardModel) (i j : ℕ) (q : BoardModel)
+    → IsBoard b
+    → i < cell_count b.grid
+    → j < cell_count b.grid
+    → i ≢ j
+    → i ≢ blank_of b
+    → j ≢ blank_of b
+    → SameClass (record b { tiles = swap b.tiles i j }) q ↔ (¬ SameClass b q)
+
+-- a plan is stuck at a place exactly where the moves before it lead somewhere, and with the move there they lead nowhere
+abbrev pub PlansAreStuckThere : Type 0
+PlansAreStuckThere =
+    (rule : WeightsModel) (b : BoardModel) (plan : List Move) (place : ℕ)
+    → IsStuckAt rule b plan place
+    ↔ ((place < length plan)
+    × ((here : BoardModel) × (k : ℕ) × Leads rule b (take place plan) here k)
+    × ((q : BoardModel) (j : ℕ) → ¬ Leads rule b (take (place + 1) plan) q j))
 
 -- a least cost is one number
 abbrev pub LeastCostsAreDetermined : Type 0

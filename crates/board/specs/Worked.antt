@@ -1,5 +1,6 @@
 -- Worked rows: what the definitions say of boards that a reader can follow by hand.
 use Rattle.std.specs.Prelude.{ℕ, ◌≡◌, List, [], ◌∷◌, Some, None}
+use Rattle.board.specs.declared.costs.TheConstants.{GREATEST_COST, GREATEST_EXPANDED_COST}
 use Rattle.board.specs.declared.moves.Move.TheVariants.{U, L, R, D}
 use Rattle.board.specs.Shapes.{ShapeModel}
 use Rattle.board.specs.Neighbours.{LiesTowards, neighbour}
@@ -49,6 +50,10 @@ TwoClasses = (¬ SameClass (two_by_two 0 2 1 3) (goal_of (grid_of 2 2))) × Same
 
 abbrev pub TwoKeys : Type 0
 TwoKeys = (key_of (two_by_two 0 1 2 3) ≡ 1091) × (key_of (two_by_two 1 0 2 3) ≡ 32835)
+
+-- the greatest cost that is handled, and the greatest at which a board is expanded
+abbrev pub GreatestCosts : Type 0
+GreatestCosts = (GREATEST_COST ≡ 1048575) × (GREATEST_EXPANDED_COST ≡ 1048320)
 
 -- the start's row alone proves that one move is least: each successor is at 1
 abbrev pub OneRow : Type 0

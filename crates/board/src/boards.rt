@@ -91,7 +91,7 @@ impl Board {
     /// - E2: their count is not the count of cells.
     /// - E3: the first faulty place has a number that is not below the count of cells.
     /// - E4: the first faulty place has a number that an earlier place has too.
-    #[tactic(auto, using(crate::proofs::FaultLemmas::no_fault, crate::proofs::FaultLemmas::one_fault))]
+    #[tactic(auto, using(crate::proofs::TileLemmas::no_fault, crate::proofs::TileLemmas::one_fault))]
     pub fn from_tiles(shape: Shape, numbers: &[u8]) -> Result<Self, TilesFault>
         ensures accepted { IsOk result ↔ IsBoard (record { grid = shape; tiles = numbers.now }) }
         ensures value { IfOk result (λ b. b ≡ record { grid = shape; tiles = numbers.now }) }

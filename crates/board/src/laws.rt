@@ -6,6 +6,7 @@ ghost use Rattle.board.specs.Laws.{LettersAreRead, NeighboursLieThere, Successor
 ghost use Rattle.board.specs.Laws.{MovesKeepBoards, MovesAreDetermined, MovesAreTakenBack};
 ghost use Rattle.board.specs.Laws.{PlansAreJoined, PlansAreCut, PlansAreDetermined};
 ghost use Rattle.board.specs.Laws.{PlansKeepBoards, MovesKeepTheClass, PlansKeepTheClass};
+ghost use Rattle.board.specs.Laws.{ExchangesChangeTheClass, PlansAreStuckThere};
 ghost use Rattle.board.specs.Laws.{RulesAreListed, NamedRulesAreListed, LeastCostsAreDetermined};
 ghost use Rattle.board.specs.Laws.{KeysNameBoards, KeysFit, KeysAreInOrder, RowsSuffice};
 
@@ -96,6 +97,17 @@ pub fn plans_are_cut()
 pub fn plans_are_determined()
     ensures boards { PlansKeepBoards }
     ensures one { PlansAreDetermined }
+{}
+
+/// A plan is stuck at the first of its moves that leads nowhere.
+pub fn plans_are_stuck_there()
+    ensures { PlansAreStuckThere }
+{}
+
+/// An exchange of two tiles leads to the other class.
+#[tactic(auto, using(crate::proofs::ClassLemmas::class_changed))]
+pub fn exchanges_change_the_class()
+    ensures { ExchangesChangeTheClass }
 {}
 
 /// A plan leads to a board of the same class.

@@ -1,12 +1,9 @@
 //! Worked rows that the definitions meet: each is the contract of a function that does nothing.
 
-ghost use Rattle.std.specs.Prelude.{◌≡◌};
 ghost use Rattle.board.specs.Worked.{TwoLeft, SixRound, OneUp, FourSuccessors};
 ghost use Rattle.board.specs.Worked.{TwoClasses, TwoKeys, WeightsWithin, OneRow, NoRow};
 ghost use Rattle.board.specs.Worked.{OblongNeighbours, OblongSuccessors};
-ghost use Rattle.board.specs.Worked.{OblongClasses, OblongKeys};
-
-use crate::costs::{GREATEST_COST, GREATEST_EXPANDED_COST};
+ghost use Rattle.board.specs.Worked.{OblongClasses, OblongKeys, GreatestCosts};
 
 /// Two moves to the left, at both cost rules.
 pub fn two_left()
@@ -40,8 +37,7 @@ pub fn two_keys()
 
 /// The greatest costs, in figures.
 pub fn greatest_costs()
-    ensures handled { GREATEST_COST ≡ 1048575 }
-    ensures expanded { GREATEST_EXPANDED_COST ≡ 1048320 }
+    ensures { GreatestCosts }
 {}
 
 /// The least and the greatest weight of a tile.

@@ -1,5 +1,5 @@
 use Rattle.std.proofs.Common.{get_or, refl, arith}
-use Rattle.board.proofs.FaultLemmas.{IsSeen-more, all_seen}
+use Rattle.board.proofs.TileLemmas.{IsSeen-more, all_seen}
 use Rattle.board.proofs.boards.check_tiles.Goals as goal
 
 pub loop-place-preserved : goal.loop-place-preserved

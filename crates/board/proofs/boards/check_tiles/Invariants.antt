@@ -1,4 +1,4 @@
-use Rattle.board.proofs.FaultLemmas.{IsSeen}
+use Rattle.board.proofs.TileLemmas.{IsSeen}
 use Rattle.board.proofs.boards.check_tiles.Given as goal
 
 abbrev pub invariant-loop-place : goal.invariant-loop-place
