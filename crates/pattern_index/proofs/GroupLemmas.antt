@@ -1,5 +1,5 @@
 -- Lists of different tiles, and how many there can be.
-use Rattle.std.proofs.Common.{◌≡◌, ◌≢◌, ℕ, zero, suc, ◌+◌, ◌-◌, ◌*◌, ◌<◌, ◌≤◌, Bool, true, eqb, List, [], ◌∷◌, ◌++◌, length, take, drop, replicate, get_or, refl, sym, ap, ◌∙◌, subst, ⊎_elim, arith, add-one}
+use Rattle.std.proofs.Common.{◌≡◌, ◌≢◌, ℕ, zero, suc, ◌+◌, ◌-◌, ◌*◌, ◌<◌, ◌≤◌, Bool, true, eqb, List, [], ◌∷◌, ◌++◌, length, take, drop, replicate, get_or, refl, sym, ap, ◌∙◌, subst, ⊎_elim, arith, add-one, ◌/◌}
 use Rattle.std.specs.Prelude.{AllPairs, Contains, IsPermutation}
 use Rattle.std.specs.Bool.{Decides}
 use Rattle.std.specs.List.{IsAnyAnswer, IsDistinct, list_any, AllByRecursion}
@@ -14,7 +14,7 @@ use Rattle.std.proofs.lemmas.Map.Keys.{IsStrictlyIncreasing-from_distinct, IsDis
 use Rattle.std.proofs.lemmas.Map.Steps.{length-le_from_distinct_below}
 use Rattle.std.proofs.lemmas.Map.Made.{IsDistinct-from_AllPairs, AllPairs-from_IsDistinct}
 use Rattle.std.proofs.Math.Nat.{mul-le-mul_left, mul-le-mul_right, mul_assoc}
-use Rattle.std.proofs.lemmas.Nat.{mul-le}
+use Rattle.std.proofs.lemmas.Nat.{mul-le, div-mul-add}
 use Rattle.board.specs.Shapes.{ShapeModel, IsShape, cell_count}
 use Rattle.board.proofs.NeighbourLemmas.{cells_above}
 use Rattle.pattern_index.specs.Packing.{IsStoredGroup}
@@ -223,3 +223,28 @@ ways_past n r i size total i_in le e =
 -- the part of the array that is written
 pub room_taken : (n : ℕ) → n ≤ 9 → length (take {A = ℕ} n (replicate 9 0)) ≡ n
 room_taken n few = length-take-le n (replicate 9 0) (omega arith)
+
+-- ---- the count of ways as a quotient of factorials
+
+factorial_some : (n : ℕ) → 0 < factorial n
+factorial_some zero = omega arith
+factorial_some (suc n) = let h = factorial_some n in let m : 1 * factorial n ≤ suc n * factorial n = mul-le-mul_right (factorial n) (omega arith) in omega arith
+
+ways-factorial : (n r : ℕ) → r ≤ n → ways n r * factorial (n - r) ≡ factorial n
+unfolding ways
+ways-factorial n zero le = omega (arith, ap factorial (sub-zero n))
+  where
+    sub-zero : (m : ℕ) → m - 0 ≡ m
+    sub-zero m = omega arith
+ways-factorial zero (suc r) le = absurd (omega arith)
+ways-factorial (suc n) (suc r) le =
+    let rest = ways-factorial n r (omega arith) in
+    let same : suc n - suc r ≡ n - r = omega arith in
+    (λ i. ways-suc n r i * factorial (same i)) ∙ mul_assoc (suc n) (ways n r) (factorial (n - r)) ∙ ap (λ m. suc n * m) rest
+
+pub ways_quotient : (n r : ℕ) → r ≤ n → ways n r ≡ factorial n / factorial (n - r)
+ways_quotient n r le =
+    let e = ways-factorial n r le in
+    let q = div-mul-add (ways n r) (factorial (n - r)) 0 (factorial_some (n - r)) in
+    let f : ways n r * factorial (n - r) + 0 ≡ factorial n = omega arith in
+    sym q ∙ ap (λ m. m / factorial (n - r)) f

@@ -1,5 +1,4 @@
 pub mod RankLemmas
-pub mod WaysLemmas
 pub mod CellLemmas
 pub mod SightLemmas
 pub mod PlaceLemmas

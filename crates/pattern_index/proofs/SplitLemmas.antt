@@ -1,7 +1,7 @@
 -- Groups, no two with a tile in common.
-use Rattle.std.proofs.Common.{◌≡◌, ℕ, ◌+◌, ◌<◌, Bool, true, false, List, length, take, get_or, refl, sym, ◌∙◌, subst, arith}
-use Rattle.std.specs.Prelude.{◌↔◌, All, Contains, IsTrue}
-use Rattle.std.proofs.lemmas.Bool.{false≢true}
+use Rattle.std.proofs.Common.{◌≡◌, ◌⊎◌, ℕ, ◌+◌, ◌<◌, Bool, true, false, List, length, take, get_or, refl, sym, ◌∙◌, subst, ⊎_elim, arith}
+use Rattle.std.specs.Prelude.{◌↔◌, All, Contains, IsTrue, slice_index_or}
+use Rattle.std.proofs.lemmas.Bool.{cases_order, false≢true}
 use Rattle.std.proofs.lemmas.List.{take_more, get_or-take, get_or_default, length-take-le}
 use Rattle.std.proofs.lemmas.List.Quantifiers.{all_pairs_push}
 use Rattle.pattern_index.specs.Groups.{GroupModel}
@@ -43,3 +43,14 @@ apart_before groups i g i_in is apart k d k_in =
     let same : get_or (take i groups) k d ≡ get_or groups k d = get_or-take i groups k d low in
     let other : get_or groups i d ≡ g = get_or_default groups i d g i_in ∙ sym is in
     subst (λ (x : GroupModel). ShareNoTile x.tiles g.tiles) (sym same) (subst (λ (y : GroupModel). ShareNoTile (get_or groups k d).tiles y.tiles) other (apart k i d low i_in))
+
+-- where groups are apart, each tile is in one of them at most
+pub one_group : (groups : List GroupModel) → AreApart groups → (tile i j : ℕ) (d : GroupModel) → i < length groups → j < length groups → Contains (slice_index_or groups i d).tiles tile → Contains (slice_index_or groups j d).tiles tile → i ≡ j
+one_group groups apart tile i j d i_in j_in first second =
+    ⊎_elim (λ (e : i ≡ j). e)
+    (λ (h : (i < j) ⊎ (j < i)). ⊎_elim (λ (lt : i < j). absurd (apart i j d lt j_in tile first second)) (λ (lt : j < i). absurd (apart j i d lt i_in tile second first)) h)
+    (cases_order i j)
+
+-- and the other way round
+pub apart_groups : (groups : List GroupModel) → ((tile i j : ℕ) (d : GroupModel) → i < length groups → j < length groups → Contains (slice_index_or groups i d).tiles tile → Contains (slice_index_or groups j d).tiles tile → i ≡ j) → AreApart groups
+apart_groups groups one i j d lt j_in tile first second = let same = one tile i j d (omega arith) j_in first second in omega arith

@@ -1,5 +1,5 @@
 -- The laws of the definitions. Each is the contract of a function that does nothing.
-use Rattle.std.specs.Prelude.{ℕ, zero, suc, ◌≡◌, ◌≢◌, ◌↔◌, ◌+◌, ◌-◌, ◌*◌, ◌/◌, ◌^◌, ◌<◌, ◌≤◌, List, ◌∷◌, length, max, Some, Contains, slice_index}
+use Rattle.std.specs.Prelude.{ℕ, zero, suc, ◌≡◌, ◌≢◌, ◌↔◌, ◌+◌, ◌-◌, ◌*◌, ◌/◌, ◌^◌, ◌<◌, ◌≤◌, List, ◌∷◌, length, max, Some, Contains, slice_index, slice_index_or}
 use Rattle.board.specs.declared.moves.Move.{Move}
 use Rattle.board.specs.Shapes.{ShapeModel, cell_count}
 use Rattle.board.specs.Neighbours.{opposite}
@@ -10,6 +10,7 @@ use Rattle.board.specs.Moves.{Moves}
 use Rattle.pattern_index.specs.Ranks.{ways, IsListing, rank_of}
 use Rattle.pattern_index.specs.Views.{ViewModel, IsView, Abstraction, ViewMoves, ViewLeads, view_of, view_at}
 use Rattle.pattern_index.specs.Groups.{GroupModel, IsGroup, AreGroupTiles, rank_in, size_of, place_in, folded_size_of, view_successor}
+use Rattle.pattern_index.specs.Partitions.{AreApart}
 use Rattle.pattern_index.specs.Sparse.{slot_count_of, slot_in, sparse_in, sparse_of, sparse_size_of, stride_of}
 
 -- n!, the numbers from 1 to n multiplied
@@ -139,3 +140,10 @@ ViewMovesAreDetermined =
 abbrev pub ViewPlansAreDetermined : Type 0
 ViewPlansAreDetermined =
     (a : Abstraction) (v : ViewModel) (plan : List Move) (w w' : ViewModel) (j k : ℕ) → ViewLeads a v plan w j → ViewLeads a v plan w' k → (w' ≡ w) × (k ≡ j)
+
+-- groups are apart exactly where each tile is in one of them at most
+abbrev pub TilesAreInOneGroup : Type 0
+TilesAreInOneGroup =
+    (groups : List GroupModel)
+    → AreApart groups
+    ↔ ((tile i j : ℕ) (d : GroupModel) → i < length groups → j < length groups → Contains (slice_index_or groups i d).tiles tile → Contains (slice_index_or groups j d).tiles tile → i ≡ j)

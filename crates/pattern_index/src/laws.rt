@@ -1,6 +1,6 @@
 //! The laws of the definitions: each is the contract of a function that does nothing.
 
-ghost use Rattle.std.specs.Prelude.{◌≡◌, ◌^◌};
+ghost use Rattle.std.specs.Prelude.{◌≡◌, ◌^◌, ◌↔◌, IsTrue};
 ghost use Rattle.pattern_index.specs.Laws.{WaysAreFactorials, RanksAreBelow, RanksDiffer};
 ghost use Rattle.pattern_index.specs.Laws.{RanksFill, RanksAreInOrder, GroupsAreSmall};
 ghost use Rattle.pattern_index.specs.Laws.{ViewRanksAreBelow, ViewRanksDiffer, ViewRanksFill};
@@ -13,11 +13,13 @@ ghost use Rattle.pattern_index.specs.Laws.{BoardsHaveViews, MovesAreViewMoves};
 ghost use Rattle.pattern_index.specs.Laws.{SuccessorsAreViewMoves, ViewMovesKeepViews};
 ghost use Rattle.pattern_index.specs.Laws.{ViewMovesAreTakenBack};
 ghost use Rattle.pattern_index.specs.Laws.{ViewMovesAreDetermined, ViewPlansAreDetermined};
+ghost use Rattle.pattern_index.specs.Laws.{TilesAreInOneGroup};
 
+use crate::faults::{GroupFault, PartitionFault};
 use crate::group::MAX_SIZE;
 
 /// The ways to list different cells are a quotient of factorials.
-#[tactic(auto, using(crate::proofs::WaysLemmas::ways_quotient))]
+#[tactic(auto, using(crate::proofs::GroupLemmas::ways_quotient))]
 pub fn ways_are_factorials()
     ensures { WaysAreFactorials }
 {}
@@ -101,3 +103,22 @@ pub fn view_plans_are_determined()
     ensures moves { ViewMovesAreDetermined }
     ensures plans { ViewPlansAreDetermined }
 {}
+
+/// Groups are apart exactly where each tile is in one of them at most.
+pub fn tiles_are_in_one_group()
+    ensures { TilesAreInOneGroup }
+{}
+
+/// `==` answers whether two faults of groups are the same.
+pub fn faults_of_groups_are_compared(a: GroupFault, b: GroupFault) -> bool
+    ensures { IsTrue result ↔ (a ≡ b) }
+{
+    a == b
+}
+
+/// `==` answers whether two faults of partitions are the same.
+pub fn faults_of_partitions_are_compared(a: PartitionFault, b: PartitionFault) -> bool
+    ensures { IsTrue result ↔ (a ≡ b) }
+{
+    a == b
+}

@@ -1,7 +1,7 @@
 use Rattle.std.proofs.Common.{◌≡◌, ◌<◌, ◌≤◌, ◌-◌, ◌/◌, ℕ, length, subst, sym, ap, ◌∙◌, arith}
 use Rattle.board.specs.Shapes.{cell_count}
 use Rattle.pattern_index.proofs.RankLemmas.{ways_some}
-use Rattle.pattern_index.proofs.WaysLemmas.{ways_quotient}
+use Rattle.pattern_index.proofs.GroupLemmas.{ways_quotient}
 use Rattle.pattern_index.proofs.PlaceLemmas.{ways-quot}
 use Rattle.pattern_index.proofs.group.Group.folded_size.Goals as goal
 

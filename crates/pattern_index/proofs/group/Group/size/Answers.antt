@@ -2,7 +2,7 @@ use Rattle.std.proofs.Common.{◌<◌, ◌∙◌, ℕ, suc, length, subst, sym}
 use Rattle.board.specs.Shapes.{cell_count}
 use Rattle.pattern_index.specs.Packing.{selection_in}
 use Rattle.pattern_index.proofs.RankLemmas.{ways_some}
-use Rattle.pattern_index.proofs.WaysLemmas.{ways_quotient}
+use Rattle.pattern_index.proofs.GroupLemmas.{ways_quotient}
 use Rattle.pattern_index.proofs.GroupLemmas.{groups_small}
 use Rattle.pattern_index.proofs.group.Group.size.Goals as goal
 
