@@ -6,11 +6,11 @@ use Rattle.board.specs.Boards.{BoardModel, IsBoard, blank_of}
 use Rattle.board.specs.Weights.{WeightsModel}
 use Rattle.board.specs.Moves.{Moves}
 use Rattle.board.specs.Rows.{IsLowerBound}
-use Rattle.pattern_index.specs.Groups.{GroupModel}
+use Rattle.pattern_index.specs.Groups.{AreGroupTiles, GroupModel}
 use Rattle.pattern_index.specs.Partitions.{PartitionModel, IsPartition, ShareNoTile}
 use Rattle.pattern_index.specs.Views.{view_of}
 use Rattle.database_build.specs.Folds.{FoldedModel}
-use Rattle.database_build.specs.Tables.{TableModel}
+use Rattle.database_build.specs.Tables.{IsPotential, TableModel}
 use Rattle.lower_bound.specs.Bounds.{Part, IsBound, sum_of}
 use Rattle.lower_bound.specs.Tables.{BoundModel, IsTables, AreTablesOf, AreConsistent, ArePotentials, AreWhole, parts_of}
 use Rattle.lower_bound.specs.Lists.{AreListed, IsFoldedBound}
@@ -22,6 +22,15 @@ use Rattle.lower_bound.specs.Folded.{AreFoldsOf, AreFoldedPotentials, KeepsOther
 -- a sum of potentials of groups that share no tile is admissible: never above the cost of a plan
 abbrev pub SumsAreLowerBounds : Type 0
 SumsAreLowerBounds = (rule : WeightsModel) (goal : BoardModel) (parts : List Part) → IsBound rule goal parts → IsLowerBound rule (sum_of parts) goal
+
+-- to be such a sum, potentials need no more than that they are of groups of the goal's grid that share no tile
+abbrev pub PotentialsMakeBounds : Type 0
+PotentialsMakeBounds =
+    (rule : WeightsModel) (goal : BoardModel) (parts : List Part)
+    → All (λ part. AreGroupTiles goal.grid part.tiles) parts
+    → AllPairs (λ p q. ShareNoTile p.tiles q.tiles) parts
+    → All (λ part. IsPotential rule part.tiles goal part.value) parts
+    → IsBound rule goal parts
 
 -- where the tables of a partition of the goal's grid are potentials, their sum is never above the cost of a plan
 abbrev pub TablesAreLowerBounds : Type 0

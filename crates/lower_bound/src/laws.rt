@@ -1,8 +1,8 @@
 //! The laws of sums: each is the contract of a function that does nothing.
 
-ghost use Rattle.std.specs.Prelude.{◌≡◌, ◌*◌};
+ghost use Rattle.std.specs.Prelude.{◌≡◌, ◌*◌, ◌↔◌, IsTrue};
 ghost use Rattle.lower_bound.specs.Laws.{SumsAreLowerBounds, TablesAreLowerBounds};
-ghost use Rattle.lower_bound.specs.Laws.{WholeTablesAreBounds};
+ghost use Rattle.lower_bound.specs.Laws.{PotentialsMakeBounds, WholeTablesAreBounds};
 ghost use Rattle.lower_bound.specs.Laws.{FoldedSumsAreLowerBounds, MovesMoveOneTile, ValuesAddUp};
 ghost use Rattle.lower_bound.specs.Laws.{ATileHasOneGroup, ListedTablesAreOneEach};
 ghost use Rattle.lower_bound.specs.Laws.{FoldedBoundsSayNoMore, FoldedBoundsKeepGroups};
@@ -11,6 +11,7 @@ ghost use Rattle.lower_bound.specs.Laws.{MovesChangeOneValue};
 ghost use Rattle.lower_bound.specs.Laws.{BothAreToldOrNot};
 
 use crate::bound::GREATEST_SUM;
+use crate::faults::PatternFault;
 use database_build::NO_VALUE;
 
 /// The greatest sum is that of 24 values, as many as a partition may have groups.
@@ -24,6 +25,11 @@ pub fn sums_are_lower_bounds()
     ensures parts { SumsAreLowerBounds }
     ensures whole { WholeTablesAreBounds }
     ensures tables { TablesAreLowerBounds }
+{}
+
+/// Nothing else is asked of potentials whose sum is a bound.
+pub fn potentials_make_bounds()
+    ensures { PotentialsMakeBounds }
 {}
 
 /// So is a sum of folded values, where each table was folded from a potential.
@@ -73,3 +79,10 @@ pub fn moves_change_one_value()
 pub fn both_are_told_or_not()
     ensures { BothAreToldOrNot }
 {}
+
+/// `==` answers whether two faults are the same.
+pub fn faults_are_compared(a: PatternFault, b: PatternFault) -> bool
+    ensures { IsTrue result ↔ (a ≡ b) }
+{
+    a == b
+}
