@@ -12,7 +12,7 @@ use Rattle.database_build.specs.Folds.{FoldedModel, IsFoldedValue, IsFoldOf, fol
 use Rattle.database_build.specs.Entries.{AreSmall, HaveOneForm, IsKeptBest, HasLeast, least_in, most_places}
 use Rattle.pattern_search.specs.declared.finding.TheConstants.{NO_VALUE}
 use Rattle.database_build.specs.declared.entries.Entries.{Entries}
-use Rattle.database_build.specs.declared.entries.Entries.TheVariants.{Words}
+use Rattle.database_build.specs.declared.entries.Entries.TheVariants.{Ranked, Bytes, Words}
 
 -- the values of the views of a group are a potential
 abbrev pub ValuesArePotentials : Type 0
@@ -76,6 +76,17 @@ FormsAreDetermined =
     → IsKeptBest (size ≤ limit) values one
     → IsKeptBest (size ≤ limit) values other
     → HaveOneForm one other
+
+-- values by rank, as bytes and as words are of three forms
+abbrev pub FormsDiffer : Type 0
+FormsDiffer =
+    (one other : Vec ℕ Global)
+    → (¬ HaveOneForm (Ranked one) (Bytes other))
+    × (¬ HaveOneForm (Ranked one) (Words other))
+    × (¬ HaveOneForm (Bytes one) (Ranked other))
+    × (¬ HaveOneForm (Bytes one) (Words other))
+    × (¬ HaveOneForm (Words one) (Ranked other))
+    × (¬ HaveOneForm (Words one) (Bytes other))
 
 -- a folded table is kept as words only where some value needs one
 abbrev pub WordsAreNeeded : Type 0

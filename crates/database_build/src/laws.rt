@@ -5,7 +5,7 @@ ghost use Rattle.database_build.specs.Laws.{ValuesArePotentials, PotentialsAreLo
 ghost use Rattle.database_build.specs.Laws.{ValuesAreReached, FoldedValuesAreLow};
 ghost use Rattle.database_build.specs.Laws.{FoldedValuesAreReached};
 ghost use Rattle.database_build.specs.Laws.{PlacesAreFew, FoldedValuesAreDetermined, FramesFitAll};
-ghost use Rattle.database_build.specs.Laws.{FormsAreDetermined, WordsAreNeeded};
+ghost use Rattle.database_build.specs.Laws.{FormsAreDetermined, FormsDiffer, WordsAreNeeded};
 
 use crate::entries::MOST_SLOTS;
 use crate::folding::{MOST_PLACES, PLACES_A_VALUE};
@@ -55,6 +55,7 @@ pub fn folded_values_are_least()
 #[tactic(auto, using(crate::proofs::EntryLemmas::one_form, crate::proofs::EntryLemmas::small_places))]
 pub fn forms_are_determined()
     ensures best { FormsAreDetermined }
+    ensures differ { FormsDiffer }
     ensures words { WordsAreNeeded }
 {}
 
