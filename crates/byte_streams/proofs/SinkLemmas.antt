@@ -1,11 +1,13 @@
 -- What several calls of a sink wrote.
-use Rattle.std.proofs.Common.{ℕ, ◌≡◌, ◌<◌, ◌-◌, false, List, [], ◌++◌, length, Option, Result, Ok, Err, sym, ◌∙◌, ap, append_assoc, refl, take, drop, take-append-drop, arith}
+use Rattle.std.proofs.Common.{ℕ, ◌≡◌, ◌≢◌, ◌<◌, ◌+◌, ◌-◌, false, List, [], ◌++◌, length, Option, Result, Ok, Err, sym, ◌∙◌, ap, append_assoc, append-nil, refl, take, drop, take-append-drop, arith}
 use Rattle.std.proofs.lemmas.Bool.{false≢true}
 use Rattle.std.proofs.lemmas.List.{length-drop}
 use Rattle.std.specs.Io.KnownBytes.{Appends, Keeps}
 use Rattle.std.proofs.KnownBytes.{Appends-nil, Appends-trans, Appends-kept}
 use Rattle.byte_streams.specs.Streams.{SinkState, Change, from_to}
 use Rattle.byte_streams.specs.Sink.{Puts, PutsBeginning, WritesAll, FailsWriting, Writes, AreTaken, StopsAtFailure}
+use Rattle.byte_streams.specs.Sink.AreTaken.{by_none, by_one_more}
+use Rattle.byte_streams.specs.Laws.{NotesWrites, WritesAreNoted}
 
 -- nothing is a beginning of any bytes
 pub PutsBeginning-none : (a : SinkState) (bytes : List ℕ) → PutsBeginning (from_to a a) bytes
@@ -69,3 +71,28 @@ StopsAtFailure-from_take takes fails old before new n bytes within taken failed 
       taken = taken;
       failed = failed;
     }
+
+module _ {W : Type 0} (takes : W → List ℕ → W → Type 0) (fails : W → W → Type 0) (noted : W → List ℕ) (failures : W → ℕ) (notes : NotesWrites takes fails noted failures) where
+  -- the bytes of a chain of writes are noted, and no failure
+  pub puts_noted : (old new : W) (bytes : List ℕ) → AreTaken takes old bytes new → (noted new ≡ noted old ++ bytes) × (failures new ≡ failures old)
+  puts_noted old _ _ by_none = (sym (append-nil (noted old)), refl)
+  puts_noted old _ _ (by_one_more sent part before new taken takes_part) =
+      let first = puts_noted old before sent taken in
+      let next = notes.took before new part takes_part in
+      (next.0 ∙ ap (λ (l : List ℕ). l ++ part) first.0 ∙ append_assoc (noted old) sent part, next.1 ∙ first.1)
+
+  -- where one more fails, a beginning of the bytes is noted, and this failure
+  pub stops_noted : (writer : Change W) (bytes : List ℕ) → StopsAtFailure takes fails writer bytes → (sent unsent : List ℕ) × (bytes ≡ sent ++ unsent) × (unsent ≢ []) × (noted writer.after ≡ noted writer.before ++ sent) × (failures writer.after ≡ failures writer.before + 1)
+  stops_noted writer bytes stops =
+      let first = puts_noted writer.before stops.between stops.sent stops.taken in
+      let last = notes.failed stops.between writer.after stops.failed in (
+        stops.sent,
+        stops.unsent,
+        stops.parts,
+        (λ none. let z = ap (λ (l : List ℕ). length l) none in absurd (omega (arith, z, stops.left))),
+        last.0 ∙ first.0,
+        last.1 ∙ ap (λ (n : ℕ). n + 1) first.1,
+      )
+
+pub writes_noted : {W : Type 0} → (takes : W → List ℕ → W → Type 0) (fails : W → W → Type 0) → WritesAreNoted takes fails
+writes_noted takes fails = record { puts = puts_noted takes fails; stops = stops_noted takes fails }

@@ -5,7 +5,7 @@ use Rattle.std.specs.Io.KnownBytes.{Consumes, Keeps}
 use Rattle.byte_streams.specs.Streams.{SourceState, Change}
 use Rattle.byte_streams.specs.Source.{GivesNext}
 use Rattle.byte_streams.specs.Buffered.{AreNext}
-use Rattle.byte_streams.specs.Laws.{HeldBytesComeNext}
+use Rattle.byte_streams.specs.Laws.{HeldBytesComeNext, ReadsAreNoted}
 
 -- one byte was taken from the front
 pub one_taken : (left : List ℕ) (after : Option (List ℕ)) (byte : ℕ) → Consumes (Some left) after (byte ∷ []) → (rest : List ℕ) × (left ≡ byte ∷ rest) × (after ≡ Some rest)
@@ -37,3 +37,12 @@ all_kept left (Some rest) keeps = ap Some keeps
 pub none_given : (source : Change SourceState) (answer : Option ℕ) → source.before.has_failed ≡ true → ¬ GivesNext source (Ok answer)
 none_given source None failed gives = false≢true (sym gives.1.0 ∙ failed)
 none_given source (Some byte) failed gives = false≢true (sym gives.1.0 ∙ failed)
+
+-- each read is noted
+pub reads_noted : {R : Type 0} → (gives : R → List ℕ → R → Type 0) → ReadsAreNoted gives
+reads_noted gives notes noted = (
+  (λ reader given. noted reader.before reader.after [] given),
+  (λ reader byte given. noted reader.before reader.after (byte ∷ []) given),
+  (λ source given. noted source.before.reader source.after.reader [] given),
+  (λ source byte given. noted source.before.reader source.after.reader (byte ∷ source.after.held) given),
+)

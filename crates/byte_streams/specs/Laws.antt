@@ -1,9 +1,9 @@
 -- The laws of the definitions. Each is the contract of a function that does nothing.
-use Rattle.std.specs.Prelude.{ℕ, ◌≡◌, true, false, List, [], ◌∷◌, ◌++◌, Option, None, Some, Result, Ok, Err, is_err}
+use Rattle.std.specs.Prelude.{ℕ, ◌≡◌, ◌≢◌, ◌+◌, true, false, List, [], ◌∷◌, ◌++◌, Option, None, Some, Result, Ok, Err, is_err}
 use Rattle.byte_streams.specs.Streams.{SourceState, SinkState, Change}
-use Rattle.byte_streams.specs.Source.{GivesNext}
-use Rattle.byte_streams.specs.Buffered.{AreNext}
-use Rattle.byte_streams.specs.Sink.{Writes, Flushes}
+use Rattle.byte_streams.specs.Source.{GivesNext, GivenByRead}
+use Rattle.byte_streams.specs.Buffered.{AreNext, BufferedModel, GivenByFill}
+use Rattle.byte_streams.specs.Sink.{Writes, Flushes, AreTaken, StopsAtFailure}
 use Rattle.byte_streams.specs.declared.sink.WriteFailed.{WriteFailed}
 use Rattle.byte_streams.specs.declared.source.ReadFailed.{ReadFailed}
 
@@ -72,3 +72,42 @@ PutFailuresLast =
 -- and every flush to it fails
 abbrev pub FlushFailuresLast : Type 0
 FlushFailuresLast = (sink : Change SinkState) (answer : Result (Unit {0}) WriteFailed) → sink.before.has_failed ≡ true → Flushes sink answer → is_err answer ≡ true
+
+-- what is noted of calls: how many there were, and the bytes that they gave or took
+pub record Notes : Type 0 where
+  pub calls : ℕ
+  pub bytes : List ℕ
+
+-- with one call more, of these bytes
+abbrev pub one_more : Notes → List ℕ → Notes
+one_more notes bytes = record { calls = notes.calls + 1; bytes = notes.bytes ++ bytes }
+
+-- Where a reader notes each read, one read more is noted of a byte that a source answers, which gave this byte and those that are held. So it is
+-- of the end, where the read gave none.
+abbrev pub ReadsAreNoted : {R : Type 0} → (R → List ℕ → R → Type 0) → Type 0
+ReadsAreNoted {R} gives =
+    (notes : R → Notes)
+    → ((old new : R) (bytes : List ℕ) → gives old bytes new → notes new ≡ one_more (notes old) bytes)
+    → ((reader : Change R) → GivenByRead gives reader None → notes reader.after ≡ one_more (notes reader.before) [])
+    × ((reader : Change R) (byte : ℕ) → GivenByRead gives reader (Some byte) → notes reader.after ≡ one_more (notes reader.before) (byte ∷ []))
+    × ((source : Change (BufferedModel R)) → GivenByFill gives source None → notes source.after.reader ≡ one_more (notes source.before.reader) [])
+    × ((source : Change (BufferedModel R)) (byte : ℕ) → GivenByFill gives source (Some byte) → notes source.after.reader ≡ one_more (notes source.before.reader) (byte ∷ source.after.held))
+
+-- a writer notes the bytes that each write took, and counts the writes that failed
+pub record NotesWrites {W : Type 0} (takes : W → List ℕ → W → Type 0) (fails : W → W → Type 0) (noted : W → List ℕ) (failures : W → ℕ) : Type 0 where
+  pub took : (old new : W) (bytes : List ℕ) → takes old bytes new → (noted new ≡ noted old ++ bytes) × (failures new ≡ failures old)
+  pub failed : (old new : W) → fails old new → (noted new ≡ noted old) × (failures new ≡ failures old + 1)
+
+-- Of a put that succeeds such a writer notes all bytes, and no failure. Of one that stops it notes bytes that it began with, not all of them, and
+-- one failure.
+pub record WritesAreNoted {W : Type 0} (takes : W → List ℕ → W → Type 0) (fails : W → W → Type 0) : Type 0 where
+  pub puts : (noted : W → List ℕ) (failures : W → ℕ)
+      → NotesWrites takes fails noted failures
+      → (old new : W) (bytes : List ℕ)
+      → AreTaken takes old bytes new
+      → (noted new ≡ noted old ++ bytes) × (failures new ≡ failures old)
+  pub stops : (noted : W → List ℕ) (failures : W → ℕ)
+      → NotesWrites takes fails noted failures
+      → (writer : Change W) (bytes : List ℕ)
+      → StopsAtFailure takes fails writer bytes
+      → (sent unsent : List ℕ) × (bytes ≡ sent ++ unsent) × (unsent ≢ []) × (noted writer.after ≡ noted writer.before ++ sent) × (failures writer.after ≡ failures writer.before + 1)

@@ -5,6 +5,7 @@ ghost use Rattle.byte_streams.specs.Laws.{FailuresTakeNone, AnswersTellFailures,
 ghost use Rattle.byte_streams.specs.Laws.{PutsTellFailures, FlushesTellFailures};
 ghost use Rattle.byte_streams.specs.Laws.{PutsAddBytes, FlushesAddNone};
 ghost use Rattle.byte_streams.specs.Laws.{PutFailuresLast, FlushFailuresLast};
+ghost use Rattle.byte_streams.specs.Laws.{ReadsAreNoted, WritesAreNoted};
 ghost use Rattle.byte_streams.specs.Buffered.{buffered_state};
 ghost use Rattle.byte_streams.specs.ByteSink.{byte_sink_state, inner_writer, WasFlushed};
 ghost use Rattle.byte_streams.specs.ByteSource.{byte_source_state};
@@ -87,4 +88,12 @@ pub fn puts_add_bytes()
 pub fn sink_failures_last()
     ensures puts { PutFailuresLast }
     ensures flushes { FlushFailuresLast }
+{}
+
+/// A source reads once for a byte that it doesn't hold, and once for the end. The writes of a put
+/// take its bytes, one after the other, and one that fails is the last.
+#[tactic(auto, using(crate::proofs::SourceLemmas::reads_noted, crate::proofs::SinkLemmas::writes_noted))]
+pub fn calls_are_noted<R: Reader, W: Writer>()
+    ensures reads { ReadsAreNoted R.read_gives }
+    ensures writes { WritesAreNoted W.write_takes W.write_fails }
 {}
