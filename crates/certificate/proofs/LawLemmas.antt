@@ -1,7 +1,8 @@
 -- What follows of spellings and first faults, and of parts that were found one after the other.
-use Rattle.std.proofs.Common.{◌≡◌, ◌++◌, List, [], ℕ, Option, refl, sym, ap, subst, ◌∙◌, append-nil, ◌≢◌, ◌⊎◌, inl, inr, ◌∷◌, Bool, true, None, Some, Result, Ok, Err}
+use Rattle.std.proofs.Common.{◌≡◌, ◌++◌, List, [], ℕ, length, Option, refl, sym, ap, subst, ◌∙◌, append-nil, ◌≢◌, ◌⊎◌, inl, inr, ◌∷◌, Bool, true, None, Some, Result, Ok, Err}
 use Rattle.std.proofs.KnownBytes.{Consumes-trans}
-use Rattle.std.specs.Prelude.{IfSome, ◌↔◌}
+use Rattle.std.specs.Prelude.{IfSome, ◌↔◌, codes}
+use Rattle.std.specs.List.{flat_map}
 use Rattle.std.proofs.lemmas.Bool.{false≢true}
 use Rattle.std.proofs.lemmas.List.{append_cancel_left, append_cancel_right}
 use Rattle.std.specs.Io.KnownBytes.{Consumes}
@@ -12,8 +13,9 @@ use Rattle.pattern_index.specs.Partitions.{PartitionModel}
 use Rattle.byte_streams.specs.Streams.{SourceState, from_to, Change}
 use Rattle.byte_streams.specs.Source.{Takes}
 use Rattle.certificate.specs.declared.certificate.Version.{Version}
-use Rattle.certificate.specs.Certificates.{CertificateModel}
-use Rattle.certificate.specs.Spellings.{Spells, spelling, front_text}
+use Rattle.certificate.specs.declared.certificate.Version.TheVariants.{One, Two}
+use Rattle.certificate.specs.Certificates.{CertificateModel, IsCertificate, Allows, upgraded}
+use Rattle.certificate.specs.Spellings.{Spells, spelling, front_text, beginning_text, claim_of, opening_text, groups_text, body_text, count_text, row_text}
 use Rattle.certificate.specs.Fields.{SpellsBoard, SpellsClaimed, SpellsAllRows, SpellsBody, SpellsFront}
 use Rattle.certificate.specs.Sources.{Finds, FindsAll, IfFormat, is_failure, ReadsAll, TellsOfInput, IsAnswerTo, IsShown, StopsAtFault, ReadsCertificate}
 use Rattle.certificate.specs.declared.faults.FormatFault.{FormatFault}
@@ -21,7 +23,7 @@ use Rattle.certificate.specs.declared.faults.FormatFault.TheVariants.{OtherMagic
 use Rattle.certificate.specs.declared.faults.ReadFault.{ReadFault}
 use Rattle.certificate.specs.declared.faults.ReadFault.TheVariants.{Format, Failed, NoMemory}
 use Rattle.certificate.specs.Readings.{Reading, certificate, give, end, next_reading, IsFaultOf, IsFirstFormatFault, HasNoFault}
-use Rattle.certificate.specs.Laws.{AreBytes, TellsOfBytes}
+use Rattle.certificate.specs.Laws.{AreBytes, TellsOfBytes, UpgradesKeepTheRest}
 use Rattle.certificate.proofs.ReaderLemmas.{all_after, if_known, not_magic, not_range, not_order, not_after, fine, faulty}
 use Rattle.certificate.proofs.CertificateLemmas.{BodyParts, bare_of, body_there, with_rows, read_again, read_takes}
 
@@ -193,7 +195,7 @@ told_of_bytes source (Err Failed) bytes left was is reads =
     subst (λ (l : List ℕ). HasNoFault certificate l) (same_bytes source.before.left source.after.left bytes left p.seen was is p.taken) p.stops
 told_of_bytes source (Err (NoMemory refused)) bytes left was is reads =
     let p = reads.stops in
-    subst (λ (l : List ℕ). HasNoFault certificate l) (same_bytes source.before.left source.after.left bytes left p.seen was is p.taken) p.stops
+    subst (λ (l : List ℕ). IsFirstFormatFault l Truncated) (same_bytes source.before.left source.after.left bytes left p.seen was is p.taken) p.stops
 
 -- ---- where a fault shows
 
@@ -224,3 +226,36 @@ fault_shows_last source fault bytes left was is reads = by_fault fault p.stops
     by_fault OutOfRange shown = inr (shown_last source OutOfRange p.seen bytes not_range same shown)
     by_fault NotRising shown = inr (shown_last source NotRising p.seen bytes not_order same shown)
     by_fault BytesAfterEnd shown = inr (shown_last source BytesAfterEnd p.seen bytes not_after same shown)
+
+-- ---- what an upgrade changes
+
+-- in version 1 a plan is claimed, so the claim's byte of version 2 is 0
+plan_claimed : (version : Version) (plan : Option (List Move)) → version ≡ One → Allows version plan → claim_of plan ≡ 0
+plan_claimed One (Some plan) is allows = refl
+plan_claimed One None is allows = absurd (false≢true allows)
+plan_claimed Two (Some plan) is allows = refl
+plan_claimed Two None is allows = absurd cc
+
+module _ (c : CertificateModel) where
+  -- what comes before the number of rows, without the beginning
+  abbrev MiddleOf : List ℕ
+  MiddleOf = opening_text c.costs ++ (groups_text c.groups.groups ++ body_text c)
+
+  abbrev RowsOf : List ℕ
+  RowsOf = count_text (length c.rows) ++ flat_map row_text c.rows
+
+  abbrev begun_with : Version → ℕ → List ℕ
+  begun_with version claim = (beginning_text version claim ++ MiddleOf) ++ RowsOf
+
+  first_version : IsCertificate c → c.version ≡ One → (rest : List ℕ) × (spelling c ≡ codes "TILECRT1" ++ rest) × (spelling (upgraded c) ≡ codes "TILECRT2" ++ 0 ∷ rest)
+  first_version is one = (MiddleOf ++ RowsOf, ap (λ (v : Version). begun_with v (claim_of c.plan)) one, ap (λ (n : ℕ). begun_with Two n) (plan_claimed c.version c.plan one is.claim))
+
+  second_version : c.version ≡ Two → upgraded c ≡ c
+  second_version two = ap (λ (v : Version). record c { version = v }) (sym two)
+
+pub upgrade_keeps : UpgradesKeepTheRest
+upgrade_keeps c is = (
+  record { sides = is.sides; costs = is.costs; groups = is.groups; start = is.start; goal = is.goal; claim = tt; cost = is.cost; plan = is.plan; count = is.count; rows = is.rows; rising = is.rising },
+  first_version c is,
+  second_version c,
+)

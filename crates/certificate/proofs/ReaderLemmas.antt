@@ -399,7 +399,7 @@ cut_short fault n value source f early = record {
     cut : IsCutOff (field fault n value) early.seen
     cut = (early.seen, field_short fault n value early.seen early.short)
 
-    stopped : (g : ReadFault) → IfFormat g (λ h. Ends source early.seen h) → StopsAt (λ bytes. IsCutOff (field fault n value) bytes) source early.seen g
+    stopped : (g : ReadFault) → IfFormat g (λ h. Ends source early.seen h) → StopsAt (field fault n value) (λ bytes. IsCutOff (field fault n value) bytes) source early.seen g
     stopped (Format g) is_end = record { at_end = λ _. is_end.1; at_byte = λ other. absurd (other is_end.0) }
     stopped Failed is_end = cut
     stopped (NoMemory refused) is_end = cut

@@ -33,13 +33,14 @@ use Rattle.certificate.proofs.GroupLemmas.{apart_pushed, first_group, group_law,
 
 -- ---- what is passed on from a later reader to the whole
 
-stops_carried : (B C : List ℕ → Type 0) (text : List ℕ) (a b c : SourceState) → Takes (from_to a b) text → ((l : List ℕ) → B l → C (text ++ l)) → (seen : List ℕ) (f : ReadFault) → StopsAt B (from_to b c) seen f → StopsAt C (from_to a c) (text ++ seen) f
-stops_carried B C text a b c taken sound seen (Format g) w = record {
+stops_carried : {X Y : Type 0} (r : Reader X) (s : Reader Y) (B C : List ℕ → Type 0) (text : List ℕ) (a b c : SourceState) → Takes (from_to a b) text → ((l : List ℕ) (g : FormatFault) → IsFaultOf r l g → IsFaultOf s (text ++ l) g) → ((l : List ℕ) → B l → C (text ++ l)) → (seen : List ℕ) (f : ReadFault)
+    → StopsAt r B (from_to b c) seen f → StopsAt s C (from_to a c) (text ++ seen) f
+stops_carried r s B C text a b c taken fault sound seen (Format g) w = record {
   at_end = λ e. all_after a.left b.left text seen taken (w.at_end e);
   at_byte = λ other. let p = w.at_byte other in (text ++ p.0, p.1, ap (λ (l : List ℕ). text ++ l) p.2 ∙ sym (append_assoc text p.0 (p.1 ∷ [])), sound p.0 p.3);
 }
-stops_carried B C text a b c taken sound seen Failed w = sound seen w
-stops_carried B C text a b c taken sound seen (NoMemory refused) w = sound seen w
+stops_carried r s B C text a b c taken fault sound seen Failed w = sound seen w
+stops_carried r s B C text a b c taken fault sound seen (NoMemory refused) w = fault seen Truncated w
 
 carried : {X Y : Type 0} (r : Reader X) (s : Reader Y) (B C : List ℕ → Type 0) (text : List ℕ) (a b c : SourceState) (f : ReadFault) → Takes (from_to a b) text → ((l : List ℕ) (g : FormatFault) → IsFaultOf r l g → IsFaultOf s (text ++ l) g)
     → ((l : List ℕ) → B l → C (text ++ l)) → RefusesAt r B (from_to b c) f → RefusesAt s C (from_to a c) f
@@ -49,7 +50,7 @@ carried r s B C text a b c f taken fault sound w = record {
   is = if_format f (λ g. IsFaultOf r w.seen g) (λ g. IsFaultOf s (text ++ w.seen) g) (λ g p. fault w.seen g p) w.is;
   first = if_format f (λ g. IfSome b.left (λ input. IsFaultOf r input g)) (λ g. IfSome a.left (λ input. IsFaultOf s input g))
       (λ g p. if_left a.left b.left text (λ input. IsFaultOf r input g) (λ input. IsFaultOf s input g) taken (λ l q. fault l g q) p) w.first;
-  stops = stops_carried B C text a b c taken sound w.seen f w.stops;
+  stops = stops_carried r s B C text a b c taken fault sound w.seen f w.stops;
   failed = w.failed;
 }
 

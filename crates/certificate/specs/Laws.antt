@@ -1,11 +1,12 @@
 -- The laws of spellings and readings, and of what is read of a source.
-use Rattle.std.specs.Prelude.{ℕ, ◌≡◌, ◌≢◌, ◌⊎◌, ◌<◌, ◌≤◌, ◌^◌, ◌↔◌, List, [], ◌∷◌, ◌++◌, length, Some, Result, Ok, Err, true}
+use Rattle.std.specs.Prelude.{ℕ, ◌≡◌, ◌≢◌, ◌⊎◌, ◌<◌, ◌≤◌, ◌^◌, ◌↔◌, List, [], ◌∷◌, ◌++◌, length, Some, Result, Ok, Err, true, codes}
 use Rattle.std.specs.List.{AllByRecursion}
-use Rattle.certificate.specs.Certificates.{CertificateModel, IsCertificate}
+use Rattle.certificate.specs.Certificates.{CertificateModel, IsCertificate, upgraded}
 use Rattle.certificate.specs.Spellings.{Spells, spelling, heading, announcement}
 use Rattle.certificate.specs.Readings.{certificate, IsFaultAt, IsFirstFormatFault, HasNoFault}
 use Rattle.certificate.specs.Sources.{ReadsCertificate}
 use Rattle.byte_streams.specs.Streams.{SourceState, Change}
+use Rattle.certificate.specs.declared.certificate.Version.TheVariants.{One, Two}
 use Rattle.certificate.specs.declared.faults.FormatFault.{FormatFault}
 use Rattle.certificate.specs.declared.faults.FormatFault.TheVariants.{Truncated}
 use Rattle.certificate.specs.declared.faults.ReadFault.{ReadFault}
@@ -80,13 +81,13 @@ OneCertificate = (c d : CertificateModel) (bytes : List ℕ) → Spells c bytes 
 abbrev pub OneSpelling : Type 0
 OneSpelling = (c : CertificateModel) (bytes bytes' : List ℕ) → Spells c bytes → Spells c bytes' → bytes' ≡ bytes
 
--- what an answer says of the bytes that were taken: they spell the certificate, or have this first fault, or have none, except that they may
--- be cut off
+-- What an answer says of the bytes that were taken. They spell the certificate, or have this first fault. Where the source failed they have
+-- none, except that they may be cut off, and where memory was refused they are cut off.
 abbrev pub TellsOfBytes : Result CertificateModel ReadFault → List ℕ → Type 0
 TellsOfBytes (Ok c) bytes = Spells c bytes
 TellsOfBytes (Err (Format fault)) bytes = IsFirstFormatFault bytes fault
 TellsOfBytes (Err Failed) bytes = HasNoFault certificate bytes
-TellsOfBytes (Err (NoMemory refused)) bytes = HasNoFault certificate bytes
+TellsOfBytes (Err (NoMemory refused)) bytes = IsFirstFormatFault bytes Truncated
 
 -- where the bytes before and after are known, the answer tells of those between
 abbrev pub AnswersTellOfBytes : Type 0
@@ -111,3 +112,13 @@ FaultsShowLast =
 abbrev pub FailuresAreOfTheSource : Type 0
 FailuresAreOfTheSource =
     (source : Change SourceState) (result : Result CertificateModel ReadFault) → ReadsCertificate source result → (result ≡ Err Failed) ↔ (source.after.has_failed ≡ true)
+
+-- An upgraded certificate has a spelling. From version 1 on the magic changes, a 0 follows it for the plan, and all other bytes stay. A
+-- certificate of version 2 stays as it is.
+abbrev pub UpgradesKeepTheRest : Type 0
+UpgradesKeepTheRest =
+    (c : CertificateModel)
+    → IsCertificate c
+    → IsCertificate (upgraded c)
+    × (c.version ≡ One → (rest : List ℕ) × (spelling c ≡ codes "TILECRT1" ++ rest) × (spelling (upgraded c) ≡ codes "TILECRT2" ++ 0 ∷ rest))
+    × (c.version ≡ Two → upgraded c ≡ c)

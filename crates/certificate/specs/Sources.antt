@@ -53,11 +53,12 @@ pub record IsShown (IsSound : List ℕ → Type 0) (source : Change SourceState)
   pub at_end : fault ≡ Truncated → IfSome source.before.left (λ input. input ≡ seen)
   pub at_byte : fault ≢ Truncated → (before : List ℕ) × (byte : ℕ) × (seen ≡ before ++ byte ∷ []) × IsSound before
 
--- Where reading stops: where a fault shows. Where the source failed or memory was refused, the bytes that were taken are sound.
-abbrev pub StopsAt : (List ℕ → Type 0) → Change SourceState → List ℕ → ReadFault → Type 0
-StopsAt IsSound source seen (Format fault) = IsShown IsSound source seen fault
-StopsAt IsSound source seen Failed = IsSound seen
-StopsAt IsSound source seen (NoMemory refused) = IsSound seen
+-- Where reading stops: where a fault shows. Where the source failed, the bytes that were taken are sound. Where memory was refused, they are cut
+-- off, so that more is due.
+abbrev pub StopsAt : {X : Type 0} → Reader X → (List ℕ → Type 0) → Change SourceState → List ℕ → ReadFault → Type 0
+StopsAt reader IsSound source seen (Format fault) = IsShown IsSound source seen fault
+StopsAt reader IsSound source seen Failed = IsSound seen
+StopsAt reader IsSound source seen (NoMemory refused) = IsCutOff reader seen
 
 -- Some of the bytes were taken, as far as the fault shows. A fault of the bytes is the first in them, and in all that were left. The fault is
 -- a failure exactly where the source has failed.
@@ -66,7 +67,7 @@ pub record RefusesAt {X : Type 0} (reader : Reader X) (IsSound : List ℕ → Ty
   pub taken : Takes source seen
   pub is : IfFormat fault (λ f. IsFaultOf reader seen f)
   pub first : IfFormat fault (λ f. IfSome source.before.left (λ input. IsFaultOf reader input f))
-  pub stops : StopsAt IsSound source seen fault
+  pub stops : StopsAt reader IsSound source seen fault
   pub failed : source.after.has_failed ≡ is_failure fault
 
 -- the reader has more to read as long as no fault shows
@@ -111,12 +112,12 @@ pub record IsAnswerTo (result : Result CertificateModel ReadFault) (input : List
   pub faulty : (fault : FormatFault) → IsFirstFormatFault input fault → AnswersOrLacks result (Err (Format fault))
 
 -- No more is taken of the source than shows the fault. A fault of the bytes is their first, and shows with the last byte taken or at the end.
--- Where the source failed or memory was refused, the bytes that were taken have no fault, except that they may be cut off.
+-- Where the source failed, the bytes that were taken have no fault, except that they may be cut off. Where memory was refused, they are cut off.
 pub record StopsAtFault (source : Change SourceState) (fault : ReadFault) : Type 0 where
   pub seen : List ℕ
   pub taken : Takes source seen
   pub is : IfFormat fault (λ f. IsFirstFormatFault seen f)
-  pub stops : StopsAt (λ bytes. HasNoFault certificate bytes) source seen fault
+  pub stops : StopsAt certificate (λ bytes. HasNoFault certificate bytes) source seen fault
 
 -- A certificate is read. The answer tells of the input, and it is a failure exactly where the source has failed. No more is taken than the
 -- spelling, or than shows the fault.

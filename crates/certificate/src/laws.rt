@@ -5,7 +5,7 @@ ghost use Rattle.certificate.specs.Laws.{OneFirstFault, FaultsComeFirst, NoneBeg
 ghost use Rattle.certificate.specs.Laws.{OneCertificate, OneSpelling, AnswersTellOfBytes};
 ghost use Rattle.certificate.specs.Laws.{FaultlessIsSpelledOrCutOff, FaultsShowLast};
 ghost use Rattle.certificate.specs.Laws.{FailuresAreOfTheSource, AnnouncementsAreCutOff};
-ghost use Rattle.certificate.specs.Laws.{BeginningsHaveNoFault};
+ghost use Rattle.certificate.specs.Laws.{BeginningsHaveNoFault, UpgradesKeepTheRest};
 ghost use Rattle.std.specs.Prelude.{◌≡◌, ◌↔◌, IsTrue};
 
 use crate::faults::{FormatFault, ReadFault, WriteFault};
@@ -44,8 +44,8 @@ pub fn one_spelling_a_certificate()
 {}
 
 /// An answer tells of the bytes that were taken: they spell the certificate, or have its first
-/// fault; or they have none, unless they are cut off, where the source failed or memory was
-/// refused.
+/// fault. Where the source failed they have none, unless they are cut off. Where memory was refused
+/// they are cut off: more is due.
 #[tactic(auto, using(crate::proofs::LawLemmas::told_of_bytes))]
 pub fn answers_tell_of_bytes()
     ensures { AnswersTellOfBytes }
@@ -61,6 +61,12 @@ pub fn faults_show_last()
 /// The answer is that reading failed exactly where the source has failed.
 pub fn failures_are_of_the_source()
     ensures { FailuresAreOfTheSource }
+{}
+
+/// An upgrade of version 1 changes the magic and puts a 0 behind it. It changes nothing of version 2.
+#[tactic(auto, using(crate::proofs::LawLemmas::upgrade_keeps))]
+pub fn upgrades_keep_the_rest()
+    ensures { UpgradesKeepTheRest }
 {}
 
 /// Whether two faults of bytes are the same.

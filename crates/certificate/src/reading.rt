@@ -211,7 +211,8 @@ fn read_all<S: Source>(alloc: Global, source: &mut S) -> Result<Certificate, Rea
 ///
 /// Memory is taken for the groups, moves and rows that are there and for one that is due, and not
 /// by their stated numbers. After a fault of the bytes the source has given them up to and with the
-/// one that shows it. F6 and F7 are answered only where the bytes that were given have no fault.
+/// one that shows it. F6 and F7 are answered only where the bytes that were given have no fault, and
+/// F7 only where more are due.
 pub fn read<S: Source>(alloc: Global, source: &mut S) -> Result<Certificate, ReadFault>
     ensures { ReadsCertificate (change S.state source.old source.new) result }
 {
