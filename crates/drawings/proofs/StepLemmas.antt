@@ -13,6 +13,9 @@ use Rattle.certificate.specs.Certificates.{CertificateModel}
 use Rattle.drawings.specs.declared.pictures.Caption.TheVariants.{Start, Step, Goal}
 use Rattle.drawings.specs.declared.pictures.Picture.{Picture}
 use Rattle.drawings.specs.Pictures.{picture, AreSteps, AreStepsOf, ArePictures}
+use Rattle.drawings.specs.Drawings.{drawing_text}
+use Rattle.drawings.specs.Laws.{DrawingsAreDetermined, FilesSayTheClaim}
+use Rattle.std.specs.Prelude.{codes}
 
 -- the pictures, and behind them those of the moves from place i on, are those before the plan and then those of the plan
 abbrev pub AreBehind : WeightsModel → BoardModel → List Move → List Picture → ℕ → BoardModel → List Picture → Type 0
@@ -77,3 +80,12 @@ pub same_pictures : (c : CertificateModel) (xs ys : List Picture) → ArePicture
 same_pictures c xs ys first second =
     let steps = one_list_of c.costs c.start c.plan first.0 second.0 first.1 second.1 in
     second.2 ∙ ap (λ (s : List Picture). picture Start c.start ∷ (s ++ picture Goal c.goal ∷ [])) steps ∙ sym first.2
+
+-- ---- what is drawn
+
+pub one_drawing : DrawingsAreDetermined
+one_drawing width c a b first second = second.2 ∙ ap (λ (p : List Picture). drawing_text width c p) (same_pictures c first.0 second.0 first.1 second.1) ∙ sym first.2
+
+-- the claim's line is between the others
+pub claim_said : FilesSayTheClaim
+claim_said seconds c bytes (front, back, is) = (codes "<svg " ++ front, back ++ codes "</svg>\n", is)

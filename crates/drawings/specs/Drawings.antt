@@ -24,7 +24,7 @@
 --      2  .     2  3
 --
 -- bound: 6 (claimed: no plan costs less)
-use Rattle.std.specs.Prelude.{ℕ, ◌≡◌, ◌+◌, ◌-◌, ◌*◌, ◌/◌, ◌==◌, max, List, [], ◌∷◌, ◌++◌, length, take, drop, replicate, Option, Some, None, if◌then◌else◌, codes, decimal, ⊤}
+use Rattle.std.specs.Prelude.{ℕ, ◌≡◌, ◌+◌, ◌-◌, ◌*◌, ◌/◌, ◌==◌, max, List, [], ◌∷◌, ◌++◌, length, take, drop, replicate, Option, Some, None, if◌then◌else◌, codes, decimal}
 use Rattle.std.specs.Int.{div_ceil}
 use Rattle.std.specs.List.{flat_map, range_with_len}
 use Rattle.board.specs.declared.moves.Move.{Move}
@@ -98,7 +98,12 @@ last_line_text None bound = codes "bound: " ++ (decimal bound ++ codes " (claime
 abbrev pub drawing_text : ℕ → CertificateModel → List Picture → List ℕ
 drawing_text width c pictures = bands_text c.grid (boards_within width c.grid) pictures ++ last_line_text c.plan c.cost
 
--- These bytes draw the certificate: as text within `width` columns. What an SVG file looks like is not said here.
+-- an SVG file: its first and last bytes are those of one, and it says what is claimed between these texts
+abbrev pub file_text : CertificateModel → List ℕ → List ℕ → List ℕ
+file_text c front back = codes "<svg " ++ (front ++ (last_line_text c.plan c.cost ++ (back ++ codes "</svg>\n")))
+
+-- These bytes draw the certificate: as text within `width` columns, or as an SVG file that says what is claimed. What its tiles look like is not
+-- said here.
 abbrev pub IsDrawing : Style → CertificateModel → List ℕ → Type 0
 IsDrawing (Text width) c bytes = (pictures : List Picture) × ArePictures c pictures × (bytes ≡ drawing_text width c pictures)
-IsDrawing (Svg seconds) c bytes = ⊤
+IsDrawing (Svg seconds) c bytes = (front back : List ℕ) × (bytes ≡ file_text c front back)

@@ -1,6 +1,6 @@
 //! The laws of drawings, and worked rows: each is the contract of a function that does nothing.
 
-ghost use Rattle.drawings.specs.Laws.{BandsAreWhole, DrawingsAreDetermined};
+ghost use Rattle.drawings.specs.Laws.{BandsAreWhole, DrawingsAreDetermined, FilesSayTheClaim};
 ghost use Rattle.drawings.specs.Worked.{PlansAreDrawn, BoundsAreDrawn};
 ghost use Rattle.drawings.specs.Worked.{OblongPlansAreDrawn, NumbersFit};
 
@@ -16,9 +16,10 @@ pub fn texts_are_these()
     ensures bound { BoundsAreDrawn }
 {}
 
-/// A certificate has one drawing as text.
+/// A certificate has one drawing as text. A file has the line of what is claimed.
 pub fn drawings_are_determined()
-    ensures { DrawingsAreDetermined }
+    ensures texts { DrawingsAreDetermined }
+    ensures files { FilesSayTheClaim }
 {}
 
 /// The text of a plan of one move on a board of 3 by 4, and numbers of several digits.

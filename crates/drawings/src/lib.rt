@@ -2,8 +2,8 @@
 //! file whose tiles slide. Only the plan is looked at, not rows and groups.
 //!
 //! - `draw` makes the whole drawing in memory, as text or as an SVG file, and writes nothing.
-//!   `IsDrawing` says each byte of the text; of a file it says nothing, and `checks/show-svg` looks
-//!   at some in Chromium.
+//!   `IsDrawing` says each byte of the text. Of a file it says how it begins and ends, and that it
+//!   has the line of the claim; `checks/show-svg` looks at some in Chromium.
 //! - The plan must lead to the goal (`requires`), which `check_plan` of `certificate_check` tests.
 //!   Rows and groups are not looked at.
 //! - `Picture` is a board under a caption. `ArePictures` gets each board from the one before it by

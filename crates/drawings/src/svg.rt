@@ -3,7 +3,8 @@
 //! The start is at the left, the goal at the right, and the claim below them, so that the file can
 //! be read where nothing is animated. A tile slides in the first half of its move's seconds.
 
-ghost use Rattle.std.specs.Prelude.{◌≤◌, ◌^◌};
+ghost use Rattle.std.specs.Prelude.{◌≡◌, ◌≤◌, ◌^◌, ◌++◌, ℕ, List, IfOk, OnOk};
+ghost use Rattle.drawings.specs.Drawings.{file_text};
 
 use crate::claims::push_claim;
 use crate::pictures::{Caption, Picture};
@@ -45,32 +46,64 @@ pub(crate) fn draw_svg(
     certificate: &Certificate,
     pictures: &[Picture],
     seconds: u8,
-) -> Result<Vec<u8>, OutOfMemory> {
+) -> Result<Vec<u8>, OutOfMemory>
+    ensures { IfOk result (λ text. (front back : List ℕ)
+        × (text.items ≡ file_text certificate.now front back)) }
+{
+    let mut head = Vec::new(alloc);
+    push_head(&mut head, certificate.shape())?;
+    let mut boards = Vec::new(alloc);
+    push_boards(&mut boards, certificate, pictures, seconds)?;
     let mut text = Vec::new(alloc);
-    let shape = certificate.shape();
-    push_head(&mut text, certificate)?;
-    push_board(&mut text, "start", "caption0", SPACE, &certificate.start())?;
-    push_board(
-        &mut text,
-        "goal",
-        "caption",
-        right_of(shape),
-        &certificate.goal(),
-    )?;
-    push_steps(&mut text, &certificate.start(), pictures, seconds)?;
-    push_all(&mut text, b"</svg>\n")?;
+    push_file(&mut text, certificate, head.as_slice(), boards.as_slice())?;
     Ok(text)
 }
 
-// The head of the file, and the claim.
-fn push_head(text: &mut Vec<u8>, certificate: &Certificate) -> Result<(), OutOfMemory> {
-    let shape = certificate.shape();
+// The file, with the claim between its head and its boards.
+fn push_file(
+    text: &mut Vec<u8>,
+    certificate: &Certificate,
+    head: &[u8],
+    boards: &[u8],
+) -> Result<(), OutOfMemory>
+    ensures { OnOk result (text.new.items
+        ≡ text.old.items ++ file_text certificate.now head.now boards.now) }
+{
+    push_all(text, b"<svg ")?;
+    push_all(text, head)?;
+    push_claim(text, certificate.claim())?;
+    push_all(text, boards)?;
+    push_all(text, b"</svg>\n")
+}
+
+// What comes behind the claim: the boards, and how the tiles slide.
+fn push_boards(
+    text: &mut Vec<u8>,
+    certificate: &Certificate,
+    pictures: &[Picture],
+    seconds: u8,
+) -> Result<(), OutOfMemory> {
+    let (start, goal) = (certificate.start(), certificate.goal());
+    push_all(text, b"</text>\n")?;
+    push_board(text, "start", "caption0", SPACE, &start)?;
+    push_board(
+        text,
+        "goal",
+        "caption",
+        right_of(certificate.shape()),
+        &goal,
+    )?;
+    push_steps(text, &start, pictures, seconds)
+}
+
+// The head of the file, up to the claim.
+fn push_head(text: &mut Vec<u8>, shape: Shape) -> Result<(), OutOfMemory> {
     let width = right_of(shape) + CELL * shape.cols() as u64 + SPACE;
     let height = TOP + CELL * shape.rows() as u64 + BOTTOM;
     push_pieces(
         text,
         &[
-            Piece::Text("<svg xmlns=\"http://www.w3.org/2000/svg\" "),
+            Piece::Text("xmlns=\"http://www.w3.org/2000/svg\" "),
             Piece::Text("xmlns:xlink=\"http://www.w3.org/1999/xlink\" version=\"1.1\" "),
             Piece::Text("font-family=\"sans-serif\" font-size=\"36\" text-anchor=\"middle\" "),
             Piece::Text("viewBox=\"0 0 "),
@@ -83,9 +116,7 @@ fn push_head(text: &mut Vec<u8>, certificate: &Certificate) -> Result<(), OutOfM
             Piece::Number(height - 25),
             Piece::Text("\" font-size=\"24\">"),
         ],
-    )?;
-    push_claim(text, certificate.claim())?;
-    push_all(text, b"</text>\n")
+    )
 }
 
 // A board under its name, which has an id. The ids of its tiles begin with the name.
