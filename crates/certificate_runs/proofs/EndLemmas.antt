@@ -6,6 +6,11 @@ use Rattle.serde_json.specs.Data.{Data}
 use Rattle.serde_json.specs.Written.{compact_text}
 use Rattle.memory.specs.declared.OutOfMemory.{OutOfMemory}
 use Rattle.board.specs.Boards.{BoardModel}
+use Rattle.board.specs.Shapes.{ShapeModel}
+use Rattle.board.specs.Weights.{WeightsModel}
+use Rattle.board.specs.Plans.{Leads}
+use Rattle.board.specs.declared.moves.Move.{Move}
+use Rattle.outcomes.specs.Outcomes.{Task}
 use Rattle.byte_streams.specs.Streams.{SourceState, SinkState, Change}
 use Rattle.byte_streams.specs.Sink.{Puts}
 use Rattle.outcomes.specs.declared.outcome.Ending.{Ending}
@@ -21,15 +26,20 @@ use Rattle.reports.proofs.ReadLemmas.{report_read}
 use Rattle.reports.proofs.TextLemmas.{text_other}
 use Rattle.reports.specs.Reports.{outcome_data, refused_data, refused_certificate_data, report_text}
 use Rattle.certificate.specs.Certificates.{CertificateModel, upgraded}
-use Rattle.certificate.specs.Readings.{certificate}
+use Rattle.certificate.specs.Readings.{certificate, HasNoFault, IsFirstFormatFault}
+use Rattle.certificate.specs.Laws.{TellsOfBytes}
+use Rattle.certificate.specs.declared.certificate.Version.TheVariants.{Two}
+use Rattle.certificate.specs.declared.faults.FormatFault.TheVariants.{Truncated}
 use Rattle.certificate.specs.Spellings.{spelling}
 use Rattle.certificate.specs.Faults.{format_code}
 use Rattle.certificate.specs.Sources.{ReadsCertificate, TellsOfInput}
 use Rattle.certificate.specs.declared.faults.ReadFault.{ReadFault}
 use Rattle.certificate.specs.declared.faults.ReadFault.TheVariants.{Format, Failed, NoMemory}
-use Rattle.certificate.proofs.LawLemmas.{spelled_read}
-use Rattle.certificate_check.specs.Refusals.{IsProved, ItsPlanLeads, refusal_code}
-use Rattle.certificate_check.proofs.RefusalLemmas.{proved_has_none}
+use Rattle.certificate.proofs.LawLemmas.{spelled_read, one_first_fault, not_both, told_of_bytes, upgrade_keeps}
+use Rattle.certificate_check.specs.Refusals.{IsProved, ItsPlanLeads, IsFirstRefusal, IsUnfitAt, refusal_code}
+use Rattle.certificate_check.specs.declared.refusals.Refusal.{Refusal}
+use Rattle.certificate_check.specs.declared.refusals.Refusal.TheVariants.{UnfitGroup}
+use Rattle.certificate_check.proofs.RefusalLemmas.{proved_has_none, first_once, other_shape_refused}
 use Rattle.lower_bound.specs.Tables.{BoundModel}
 use Rattle.certificate_runs.specs.Built.{AreBuiltFor}
 use Rattle.drawings.specs.declared.drawing.Style.{Style}
@@ -46,9 +56,9 @@ use Rattle.certificate_runs.specs.Rules.{ProofRules, MayReport, report_rules}
 use Rattle.certificate_runs.specs.Certifying.{Replies, HasFirst, CertifiesLine, IsReportDue, IsUncertified, NeedsReport, first_line, report_of}
 use Rattle.certificate_runs.specs.Checking.{Checks, IsJudgement, IsRefusedReport, IsVerdictOutput, HasVerdict, PutsVerdict, WantsMemory, claim_data}
 use Rattle.certificate_runs.specs.Showing.{IsShowOutput, PutsRefusal, LacksDrawing, EndsShow, Shows}
-use Rattle.certificate_runs.specs.Upgrading.{Upgrades}
-use Rattle.certificate_runs.specs.Headline.{CertifiesTruly, IsMistaken, WritesVerdict, WritesShow, IsTrueShow}
-use Rattle.certificate_runs.specs.Laws.{OtherFaultsDrawNothing, OtherFaultsUpgradeNothing, EarlyVerdictsBegin, EarlyUpgradesBegin, EarlyDrawingsBegin, DrawingsLackTheirOwn, ReportsLackTheirOwn, EarlyCertificatesBegin, EarlyReportsBegin, StatusTellsOutput, AnswerStatusesTell, VerdictStatusesTell, FailedCertificatesAreTold, FailedVerdictsAreTold, FailedLinesAreTold, FailedRepliesAreTold, NothingBehindIsTaken, CertificatesAreAccepted}
+use Rattle.certificate_runs.specs.Upgrading.{EndsUpgrade, Upgrades}
+use Rattle.certificate_runs.specs.Headline.{CertifiesTruly, ClaimsTruly, IsMistaken, WritesVerdict, WritesShow, IsTrueShow}
+use Rattle.certificate_runs.specs.Laws.{OtherFaultsDrawNothing, OtherFaultsUpgradeNothing, EarlyVerdictsBegin, EarlyUpgradesBegin, EarlyDrawingsBegin, DrawingsLackTheirOwn, ReportsLackTheirOwn, EarlyCertificatesBegin, EarlyReportsBegin, StatusTellsOutput, AnswerStatusesTell, VerdictStatusesTell, FailedCertificatesAreTold, FailedVerdictsAreTold, FailedLinesAreTold, FailedRepliesAreTold, NothingBehindIsTaken, CertificatesAreAccepted, CertificatesAreDrawn, CertificatesAreKept, CertificatesAreTakenAsWritten, MemoryHidesNoFault}
 use Rattle.certificate_runs.specs.declared.faults.CertifyFault.{CertifyFault}
 use Rattle.certificate_runs.specs.declared.faults.CertifyFault.TheVariants as certify
 use Rattle.certificate_runs.specs.declared.faults.CheckFault.{CheckFault}
@@ -124,6 +134,12 @@ early_verdicts source sink input known empty (read, reads, (output, verdict, fai
     let truth : WritesVerdict (filled output.text) input = verdict_written (filled output.text) input output refl read (tells_of source input read known reads) verdict in
     let is : output.text ≡ truth.line ++ 10 ∷ [] = truth.put in
     (truth.line, begun.sent, begun.unsent, truth.value, held sink.before.contents sink.after.contents begun.sent empty begun.put, sym is ∙ begun.parts, truth.json, truth.truth)
+
+-- the place of an upgrade's fault among all
+abbrev upgrade_fault_place : UpgradeFault → ℕ
+upgrade_fault_place upgrade.CertificateRead = 1
+upgrade_fault_place (upgrade.CertificateMemory refused) = 2
+upgrade_fault_place upgrade.CertificateWrite = 3
 
 -- the place of an upgrade's answer among all
 abbrev upgrade_place : Result ℕ UpgradeFault → ℕ
@@ -329,6 +345,91 @@ not_wanted read refused (inr (c, is)) failed = let z = ap read_place (sym is ∙
 wants_of : (read : Result CertificateModel ReadFault) (refused : OutOfMemory) → LacksDrawing read refused → WantsMemory read refused
 wants_of read refused (inl lacks) = inl lacks
 wants_of read refused (inr (c, is, leads)) = inr (c, is)
+
+-- a certificate that says the truth of a task has a plan that leads, if it claims one
+certified_leads : (split : PartitionModel) (task : Task) (c : CertificateModel) (input : List ℕ) → CertifiesTruly split task c input → ItsPlanLeads c
+certified_leads split task c input certifies =
+    subst (λ (rule : WeightsModel). IfSome c.plan (λ moves. Leads rule c.start moves c.goal c.cost)) (sym certifies.costs)
+    (subst (λ (b : BoardModel). IfSome c.plan (λ moves. Leads task.rule b moves c.goal c.cost)) (sym certifies.start)
+    (subst (λ (q : BoardModel). IfSome c.plan (λ moves. Leads task.rule task.start moves q c.cost)) (sym certifies.goal) (leads_of c.plan certifies.claim)))
+  where
+    leads_of : (plan : Option (List Move)) → ClaimsTruly task c.cost plan → IfSome plan (λ moves. Leads task.rule task.start moves task.goal c.cost)
+    leads_of None claims = tt
+    leads_of (Some plan) claims = claims.0
+
+-- tables of the certificate's groups that are none
+abbrev no_tables : CertificateModel → BoundModel
+no_tables c = record { split = c.groups; lookups = []; folds = [] }
+
+-- and of the same groups on boards with one row more
+abbrev taller : CertificateModel → BoundModel
+taller c = record { split = record { grid = record { rows = c.groups.grid.rows + 1; cols = c.groups.grid.cols }; groups = c.groups.groups }; lookups = []; folds = [] }
+
+fit_at_first : (c : CertificateModel) → IsUnfitAt c (no_tables c) 0 → ⊥
+fit_at_first c (inl (other, first)) = other refl
+fit_at_first c (inr (inl differ)) = differ refl
+fit_at_first c (inr (inr (inl (fold, at)))) = absurd cc
+fit_at_first c (inr (inr (inr (table, at, none)))) = absurd cc
+
+-- where the plan leads, no cause is the first with any tables
+never_misled : (c : CertificateModel) → ItsPlanLeads c → (refusal : Refusal) → ((tables : BoundModel) → IsFirstRefusal c tables refusal) → ⊥
+never_misled c leads refusal first =
+    let differ : c.groups.grid ≢ (taller c).split.grid = λ same. let z = ap (λ (g : ShapeModel). g.rows) same in absurd (omega (arith, z)) in
+    let unfit : refusal ≡ UnfitGroup 0 = first_once c (taller c) refusal (UnfitGroup 0) (first (taller c)) (other_shape_refused c (taller c) leads differ) in
+    fit_at_first c (subst (λ (r : Refusal). IsFirstRefusal c (no_tables c) r) unfit (first (no_tables c))).0
+
+-- such a certificate is drawn
+pub certified_drawn : CertificatesAreDrawn
+certified_drawn split task c style source sink status input certifies known (read, reads, (output, shown, put, told)) =
+    told ∙ by_read read (tells_of source input read known reads) shown
+  where
+    by_read : (read : Result CertificateModel ReadFault) → TellsOfInput read input → IsShowOutput style read output → output.status ≡ 0
+    by_read (Ok d) tells (inl drawn) = drawn.well
+    by_read (Ok d) tells (inr (refusal, first, refused)) =
+        let same : d ≡ c = one_certificate input c d certifies.read (spelled_read input d tells) in
+        absurd (never_misled c (certified_leads split task c input certifies) refusal (subst (λ (e : CertificateModel). (tables : BoundModel) → IsFirstRefusal e tables refusal) same first))
+    by_read (Err (Format fault)) tells shown = absurd (faultless input c fault certifies.read tells)
+    by_read (Err Failed) tells shown = absurd shown
+    by_read (Err (NoMemory refused)) tells shown = absurd shown
+
+-- and an upgrade leaves it as it is
+pub certified_kept : CertificatesAreKept
+certified_kept split task c source sink status input certifies known empty (read, reads, ends) = by_read read (tells_of source input read known reads) ends
+  where
+    by_read : (read : Result CertificateModel ReadFault) → TellsOfInput read input → EndsUpgrade read sink (Ok status) → (sink.after.contents ≡ Some input) × (status ≡ 0)
+    by_read (Ok d) tells ends =
+        let same : d ≡ c = one_certificate input c d certifies.read (spelled_read input d tells) in
+        let version : d.version ≡ Two = ap (λ (e : CertificateModel). e.version) same ∙ certifies.version in
+        let text : spelling (upgraded d) ≡ input = ap spelling ((upgrade_keeps d tells.0).2 version) ∙ sym tells.1 in
+        (held sink.before.contents sink.after.contents input empty (subst (Puts sink) text ends.0.0), ends.1)
+    by_read (Err (Format fault)) tells ends = absurd (faultless input c fault certifies.read tells)
+    by_read (Err Failed) tells ends = let z = ap upgrade_place ends.1 in absurd (omega (arith, z))
+    by_read (Err (NoMemory refused)) tells ends = let z = ap upgrade_place ends.1 in absurd (omega (arith, z))
+
+-- what was read of known bytes has no fault there, where it is a certificate or where memory was refused
+sound_where : (source : Change SourceState) (read : Result CertificateModel ReadFault) (refused : OutOfMemory) (bytes left : List ℕ) → source.before.left ≡ Some (bytes ++ left) → source.after.left ≡ Some left → ReadsCertificate source read → WantsMemory read refused → HasNoFault certificate bytes
+sound_where source read refused bytes left was is reads (inl lacks) =
+    let cut : TellsOfBytes (Err (NoMemory refused)) bytes = subst (λ (r : Result CertificateModel ReadFault). TellsOfBytes r bytes) lacks (told_of_bytes source read bytes left was is reads) in
+    λ fault f. one_first_fault bytes Truncated fault cut f
+sound_where source read refused bytes left was is reads (inr (c, same)) =
+    let spells : TellsOfBytes (Ok c) bytes = subst (λ (r : Result CertificateModel ReadFault). TellsOfBytes r bytes) same (told_of_bytes source read bytes left was is reads) in
+    λ fault f. absurd (not_both bytes c fault spells f)
+
+cut_where : (source : Change SourceState) (sink : Change SinkState) (refused : OutOfMemory) (bytes left : List ℕ) → source.before.left ≡ Some (bytes ++ left) → source.after.left ≡ Some left → Upgrades source sink (Err (upgrade.CertificateMemory refused)) → IsFirstFormatFault bytes Truncated
+cut_where source sink refused bytes left was is (Ok c, reads, ends) = let z = ap upgrade_fault_place ends.1 in absurd (omega (arith, z))
+cut_where source sink refused bytes left was is (Err (Format fault), reads, ends) = let z = ap upgrade_place ends.1 in absurd (omega (arith, z))
+cut_where source sink refused bytes left was is (Err Failed, reads, ends) = let z = ap upgrade_place ends.1 in absurd (omega (arith, z))
+cut_where source sink refused bytes left was is (Err (NoMemory other), reads, ends) = told_of_bytes source (Err (NoMemory other)) bytes left was is reads
+
+pub taken_as_written : CertificatesAreTakenAsWritten
+taken_as_written = record { drawn = certified_drawn; kept = certified_kept }
+
+pub no_fault_hidden : MemoryHidesNoFault
+no_fault_hidden = record {
+  checks = λ source sink refused bytes left taken checks. sound_where source checks.0 refused bytes left taken.0 taken.1 checks.1 checks.2.0;
+  shows = λ style source sink refused bytes left taken shows. sound_where source shows.0 refused bytes left taken.0 taken.1 shows.1 (wants_of shows.0 refused shows.2.0);
+  upgrades = λ source sink refused bytes left taken upgrades. cut_where source sink refused bytes left taken.0 taken.1 upgrades;
+}
 
 check_reads : (source : Change SourceState) (sink : Change SinkState) (result : Result ℕ CheckFault) → Checks source sink result → (result ≡ Err CertificateRead) ↔ (source.after.has_failed ≡ true)
 check_reads source sink (Ok status) (read, reads, (output, verdict, put, told)) =

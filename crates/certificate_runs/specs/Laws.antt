@@ -39,8 +39,9 @@ use Rattle.certificate_check.specs.declared.refusals.Refusal.{Refusal}
 use Rattle.drawings.specs.declared.drawing.Style.{Style}
 use Rattle.drawings.specs.Drawings.{IsDrawing}
 use Rattle.lower_bound.specs.Tables.{BoundModel}
-use Rattle.certificate.specs.Readings.{certificate, IsFirstFormatFault}
+use Rattle.certificate.specs.Readings.{certificate, IsFirstFormatFault, HasNoFault}
 use Rattle.certificate.specs.declared.faults.FormatFault.{FormatFault}
+use Rattle.certificate.specs.declared.faults.FormatFault.TheVariants.{Truncated}
 use Rattle.certificate.specs.declared.faults.ReadFault.{ReadFault}
 use Rattle.certificate.specs.declared.faults.ReadFault.TheVariants.{Format}
 use Rattle.certificate_runs.specs.Rules.{ProofRules, ProvesTruly, rows_of, report_rules}
@@ -406,6 +407,41 @@ CertificatesAreAccepted =
     → source.before.left ≡ Some input
     → Checks source sink (Ok status)
     → status ≡ 0
+
+-- and a run that draws draws it
+abbrev pub CertificatesAreDrawn : Type 0
+CertificatesAreDrawn =
+    (split : PartitionModel) (task : Task) (c : CertificateModel) (style : Style) (source : Change SourceState) (sink : Change SinkState) (status : ℕ) (input : List ℕ)
+    → CertifiesTruly split task c input
+    → source.before.left ≡ Some input
+    → Shows style source sink (Ok status)
+    → status ≡ 0
+
+-- and where the sink was empty, one that upgrades leaves the same bytes there
+abbrev pub CertificatesAreKept : Type 0
+CertificatesAreKept =
+    (split : PartitionModel) (task : Task) (c : CertificateModel) (source : Change SourceState) (sink : Change SinkState) (status : ℕ) (input : List ℕ)
+    → CertifiesTruly split task c input
+    → source.before.left ≡ Some input
+    → sink.before.contents ≡ Some []
+    → Upgrades source sink (Ok status)
+    → (sink.after.contents ≡ Some input) × (status ≡ 0)
+
+-- the two together: what a run that answers a line writes is taken by the other runs as it is
+pub record CertificatesAreTakenAsWritten : Type 0 where
+  pub drawn : CertificatesAreDrawn
+  pub kept : CertificatesAreKept
+
+-- these are the bytes that were taken of a source, and those that are left
+abbrev pub HasTaken : Change SourceState → List ℕ → List ℕ → Type 0
+HasTaken source bytes left = (source.before.left ≡ Some (bytes ++ left)) × (source.after.left ≡ Some left)
+
+-- A run over a certificate says that memory was refused for it only where the bytes that were taken have no fault, except that they may be cut
+-- off. One that upgrades takes memory only for reading, so they are cut off.
+pub record MemoryHidesNoFault : Type 0 where
+  pub checks : (source : Change SourceState) (sink : Change SinkState) (refused : OutOfMemory) (bytes left : List ℕ) → HasTaken source bytes left → Checks source sink (Err (check.CertificateMemory refused)) → HasNoFault certificate bytes
+  pub shows : (style : Style) (source : Change SourceState) (sink : Change SinkState) (refused : OutOfMemory) (bytes left : List ℕ) → HasTaken source bytes left → Shows style source sink (Err (check.CertificateMemory refused)) → HasNoFault certificate bytes
+  pub upgrades : (source : Change SourceState) (sink : Change SinkState) (refused : OutOfMemory) (bytes left : List ℕ) → HasTaken source bytes left → Upgrades source sink (Err (upgrade.CertificateMemory refused)) → IsFirstFormatFault bytes Truncated
 
 -- a run over a certificate says that it can't be read exactly where the source has failed
 abbrev pub FailedCertificatesAreTold : Type 0

@@ -27,7 +27,8 @@ ghost use Rattle.certificate_runs.specs.Laws.{EarlyVerdictsBegin, EarlyUpgradesB
 ghost use Rattle.certificate_runs.specs.Laws.{EarlyDrawingsBegin, EarlyCertificatesBegin};
 ghost use Rattle.certificate_runs.specs.Laws.{EarlyReportsBegin, AnswerStatusesTell};
 ghost use Rattle.certificate_runs.specs.Laws.{VerdictStatusesTell, CertificatesAreAccepted};
-ghost use Rattle.certificate_runs.specs.Laws.{FailedCertificatesAreTold};
+ghost use Rattle.certificate_runs.specs.Laws.{CertificatesAreTakenAsWritten};
+ghost use Rattle.certificate_runs.specs.Laws.{FailedCertificatesAreTold, MemoryHidesNoFault};
 ghost use Rattle.certificate_runs.specs.Laws.{FailedVerdictsAreTold, FailedLinesAreTold};
 ghost use Rattle.certificate_runs.specs.Laws.{FailedRepliesAreTold, NothingBehindIsTaken};
 
@@ -169,6 +170,14 @@ pub fn checks_end_as_reported()
     ensures verdicts { EarlyVerdictsBegin }
     ensures upgrades { EarlyUpgradesBegin }
     ensures drawings { EarlyDrawingsBegin }
+{}
+
+/// A certificate that a run writes for a line is drawn, and an upgrade leaves its bytes as they are.
+/// No refusal of memory hides a fault of the bytes that were taken.
+#[tactic(auto, using(crate::proofs::EndLemmas::taken_as_written, crate::proofs::EndLemmas::no_fault_hidden))]
+pub fn certificates_are_taken_as_written()
+    ensures taken { CertificatesAreTakenAsWritten }
+    ensures memory { MemoryHidesNoFault }
 {}
 
 /// How a run that answers the first asking line ends. Its status tells of the output that it leaves.
