@@ -1,6 +1,7 @@
 -- Texts that say the groups of a partition have no fault.
 use Rattle.std.proofs.Common.{◌≡◌, ◌≢◌, ℕ, zero, suc, ◌+◌, ◌-◌, ◌*◌, ◌^◌, ◌<◌, ◌≤◌, Bool, true, false, cond, leb, List, [], ◌∷◌, ◌++◌, length, map, min, get_or, refl, sym, ap, subst, ◌∙◌, ⊎_elim, arith, ◌⊎◌, eqb, take, Some}
-use Rattle.std.specs.Prelude.{All, IsPermutation, Contains, slice_get}
+use Rattle.std.specs.Prelude.{All, IsPermutation, Contains, slice_get, codes}
+use Rattle.memory.specs.declared.OutOfMemory.{OutOfMemory}
 use Rattle.std.proofs.lemmas.Bool.{cases_lt, cases_eq, cases_order}
 use Rattle.std.proofs.lemmas.Bool.Decides.{nat_tests, Decides-eqb}
 use Rattle.std.proofs.lemmas.List.Sorted.{All-permutation, length_permutation, Contains-permutation, IsPermutation-sym}
@@ -19,9 +20,9 @@ use Rattle.pattern_index.specs.declared.faults.PartitionFault.TheVariants.{Share
 use Rattle.pattern_index.proofs.FaultLemmas.{no_fault, one_fault, no_split_fault}
 use Rattle.option_texts.specs.declared.faults.GroupsFault.{GroupsFault}
 use Rattle.option_texts.specs.declared.faults.GroupsFault.TheVariants.{NoGroup, NoPartition, Memory}
-use Rattle.option_texts.specs.Texts.{group_numbers, IsGroupOf, AreGroupsOf}
+use Rattle.option_texts.specs.Texts.{group_texts, group_numbers, IsGroupOf, AreGroupsOf}
 use Rattle.option_texts.specs.Faults.{IsFirstGroupsFault}
-use Rattle.option_texts.specs.Laws.{IsMemoryRefusal}
+use Rattle.option_texts.specs.Laws.{IsMemoryRefusal, MemoryIsRefusedForGroups}
 use Rattle.std.specs.List.{concat, range_with_len}
 use Rattle.std.specs.List.Sorted.{IsStrictlyIncreasing}
 use Rattle.std.specs.Int.{div_ceil}
@@ -80,6 +81,20 @@ said_no_fault grid text g fault said first =
     let group : AreGroupTiles grid numbers = group_moved grid numbers g.tiles said.tiles (subst (λ (of : ShapeModel). AreGroupTiles of g.tiles) said.sides said.group.group) in
     let small : ways (cell_count grid) (suc (length numbers)) ≤ MAX_SIZE = subst (λ (n : ℕ). ways (cell_count grid) (suc n) ≤ MAX_SIZE) long (subst (λ (of : ShapeModel). ways (cell_count of) (suc (length g.tiles)) ≤ MAX_SIZE) said.sides said.group.small) in
     no_fault grid numbers (omega (arith, long, said.group.some)) group small fault first
+
+-- memory is not refused where the first text is faulty
+memory_first : (grid : ShapeModel) (text : List ℕ) (texts : List (List ℕ)) (fault : GroupFault) (refused : OutOfMemory) → IsFirstGroupFault grid (group_numbers text) fault → IsFirstGroupsFault grid (text ∷ texts) (Memory refused) → ⊥
+memory_first grid text texts fault refused faulty (zero, here, before, group, at, said, is) = said_no_fault grid text group fault (subst (λ (bytes : List ℕ). IsGroupOf grid bytes group) (sym (same_Some text here at)) is) faulty
+memory_first grid text texts fault refused faulty (suc place, here, before, group, at, said, is) =
+    let first = group_at grid (take (suc place) (text ∷ texts)) before zero text said refl in
+    said_no_fault grid text first.0 fault first.1 faulty
+
+-- nor where there is no text
+none_free : (grid : ShapeModel) (refused : OutOfMemory) → IsFirstGroupsFault grid (group_texts (codes "none")) (Memory refused) → ⊥
+none_free grid refused (place, here, before, group, at, said, is) = none-some here at
+
+pub for_groups : MemoryIsRefusedForGroups
+for_groups = record { faults = memory_first; none = none_free }
 
 -- groups that the texts say are apart where others that they say are
 apart_alike : (grid : ShapeModel) (texts : List (List ℕ)) (ones others : List GroupModel) → AreGroupsOf grid texts ones → AreGroupsOf grid texts others → AreApart ones → AreApart others

@@ -1,5 +1,5 @@
 -- Why a text says no costs, or no groups of a partition, and the word of each reason.
-use Rattle.std.specs.Prelude.{ℕ, ◌≡◌, ◌≢◌, ◌-◌, ◌<◌, List, length, take, slice_get, Some, codes, ⊤}
+use Rattle.std.specs.Prelude.{ℕ, ◌≡◌, ◌≢◌, ◌-◌, ◌<◌, List, length, take, slice_get, Some, codes}
 use Rattle.board.specs.Shapes.{ShapeModel, cell_count}
 use Rattle.board.specs.declared.faults.WeightsFault.{WeightsFault}
 use Rattle.board.specs.declared.faults.WeightsFault.TheVariants.{WrongCount, WeightOutOfRange}
@@ -8,7 +8,7 @@ use Rattle.pattern_index.specs.Partitions.{IsPartitionFault}
 use Rattle.pattern_index.specs.Faults.{IsFirstGroupFault, group_code, partition_code}
 use Rattle.option_texts.specs.declared.faults.GroupsFault.{GroupsFault}
 use Rattle.option_texts.specs.declared.faults.GroupsFault.TheVariants.{NoGroup, NoPartition, Memory}
-use Rattle.option_texts.specs.Texts.{comma_words, SpellsWeight, group_numbers, AreGroupsOf}
+use Rattle.option_texts.specs.Texts.{comma_words, SpellsWeight, group_numbers, IsGroupOf, AreGroupsOf}
 
 -- there are as many words as tiles, and each before this place spells a number from 1 to 255
 pub record IsFirstWeightWord (grid : ShapeModel) (words : List (List ℕ)) (place : ℕ) : Type 0 where
@@ -25,13 +25,14 @@ IsFirstWeightFault grid words (WeightOutOfRange place) = (word : List ℕ) × Is
 abbrev pub IsFirstCostsFault : ShapeModel → List ℕ → WeightsFault → Type 0
 IsFirstCostsFault grid text fault = (text ≢ codes "unit") × (text ≢ codes "face") × IsFirstWeightFault grid (comma_words text) fault
 
--- the first fault of the texts of groups: that of the first text that says no group, else that of the groups; memory may be
--- refused before either
+-- The first fault of the texts of groups: that of the first text that says no group, else that of the groups. Memory may be refused for the
+-- group of a text, where that and each text before it says one.
 abbrev pub IsFirstGroupsFault : ShapeModel → List (List ℕ) → GroupsFault → Type 0
 IsFirstGroupsFault grid texts (NoGroup fault) =
     (place : ℕ) × (text : List ℕ) × (before : List GroupModel) × (slice_get texts place ≡ Some text) × AreGroupsOf grid (take place texts) before × IsFirstGroupFault grid (group_numbers text) fault
 IsFirstGroupsFault grid texts (NoPartition fault) = (groups : List GroupModel) × AreGroupsOf grid texts groups × IsPartitionFault groups fault
-IsFirstGroupsFault grid texts (Memory refused) = ⊤
+IsFirstGroupsFault grid texts (Memory refused) =
+    (place : ℕ) × (text : List ℕ) × (before : List GroupModel) × (group : GroupModel) × (slice_get texts place ≡ Some text) × AreGroupsOf grid (take place texts) before × IsGroupOf grid text group
 
 -- the word that a fault is reported by
 abbrev pub groups_code : GroupsFault → List ℕ

@@ -1,5 +1,5 @@
 -- The laws of texts of goals, of costs and of groups, and of groups where none are named. Each is the contract of a function that does nothing.
-use Rattle.std.specs.Prelude.{ℕ, ◌≡◌, ◌-◌, List, ⊤}
+use Rattle.std.specs.Prelude.{ℕ, ◌≡◌, ◌-◌, List, ◌∷◌, ⊤, codes}
 use Rattle.std.specs.List.{concat, range_with_len}
 use Rattle.board.specs.Shapes.{ShapeModel, IsShape, cell_count}
 use Rattle.board.specs.Boards.{BoardModel}
@@ -7,10 +7,13 @@ use Rattle.board.specs.Weights.{WeightsModel}
 use Rattle.board.specs.declared.faults.TilesFault.{TilesFault}
 use Rattle.board.specs.declared.faults.WeightsFault.{WeightsFault}
 use Rattle.batch_lines.specs.Words.{IsFirstWordFault}
+use Rattle.memory.specs.declared.OutOfMemory.{OutOfMemory}
+use Rattle.pattern_index.specs.Faults.{IsFirstGroupFault}
 use Rattle.pattern_index.specs.Partitions.{PartitionModel, IsPartition}
+use Rattle.pattern_index.specs.declared.faults.GroupFault.{GroupFault}
 use Rattle.option_texts.specs.declared.faults.GroupsFault.{GroupsFault}
 use Rattle.option_texts.specs.declared.faults.GroupsFault.TheVariants.{NoGroup, NoPartition, Memory}
-use Rattle.option_texts.specs.Texts.{comma_words, IsGoalOf, SaysCosts, AreGroupsOf}
+use Rattle.option_texts.specs.Texts.{comma_words, IsGoalOf, SaysCosts, AreGroupsOf, group_texts, group_numbers}
 use Rattle.option_texts.specs.Faults.{IsFirstCostsFault, IsFirstGroupsFault}
 use Rattle.option_texts.specs.Defaults.{default_groups}
 
@@ -58,6 +61,11 @@ FaultsAreDetermined =
     → IsFirstGroupsFault grid texts fault
     → IsFirstGroupsFault grid texts fault'
     → fault' ≡ fault
+
+-- no refusal of memory hides the fault of the first text, and none is answered to `none`, which is no group
+pub record MemoryIsRefusedForGroups : Type 0 where
+  pub faults : (grid : ShapeModel) (text : List ℕ) (texts : List (List ℕ)) (fault : GroupFault) (refused : OutOfMemory) → IsFirstGroupFault grid (group_numbers text) fault → ¬ IsFirstGroupsFault grid (text ∷ texts) (Memory refused)
+  pub none : (grid : ShapeModel) (refused : OutOfMemory) → ¬ IsFirstGroupsFault grid (group_texts (codes "none")) (Memory refused)
 
 -- where no groups are named, they have each tile once, in rising order
 abbrev pub DefaultsHaveEachTile : Type 0

@@ -26,7 +26,7 @@ use std::alloc::Global;
 ///
 /// The first faulty word of a group decides between E6 and E7, and both come before E8. Where no
 /// group has a fault, E10 says that there are too many groups, and else E9 that two share a tile.
-/// Memory may be refused for the groups.
+/// Memory may be refused for a group, where no text up to its own has a fault.
 #[tactic(auto, using(crate::proofs::TextLemmas::groups_fit))]
 pub fn read_groups(alloc: Global, shape: Shape, text: &str) -> Result<Partition, GroupsFault>
     ensures groups { IfOk result

@@ -6,6 +6,7 @@ ghost use Rattle.option_texts.specs.Laws.{CostsAreDetermined, CostsHaveNoFault};
 ghost use Rattle.option_texts.specs.Laws.{CostFaultsAreDetermined};
 ghost use Rattle.option_texts.specs.Laws.{PartitionsHaveNoFault, FaultsAreDetermined};
 ghost use Rattle.option_texts.specs.Laws.{DefaultsHaveEachTile};
+ghost use Rattle.option_texts.specs.Laws.{MemoryIsRefusedForGroups};
 
 /// A text says one goal at most, and one that says a goal has no fault.
 #[tactic(auto, using(crate::proofs::TextLemmas::one_goal, crate::proofs::TextLemmas::no_goal_fault))]
@@ -28,6 +29,12 @@ pub fn costs_say_one_thing()
 pub fn texts_say_one_thing()
     ensures partitions { PartitionsHaveNoFault }
     ensures faults { FaultsAreDetermined }
+{}
+
+/// No refusal of memory hides the fault of the first group, and `none` takes no memory.
+#[tactic(auto, using(crate::proofs::LawLemmas::for_groups))]
+pub fn memory_is_refused_for_groups()
+    ensures { MemoryIsRefusedForGroups }
 {}
 
 /// Where no groups are named, they have each tile once, in rising order.

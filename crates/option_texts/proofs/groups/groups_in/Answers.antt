@@ -21,6 +21,16 @@ returns-in-Err-clause-fault c =
     let before : AreGroupsOf c.args.shape (take (length c.groups.yielded) all) c.groups.groups.items = subst (λ (texts : List (List ℕ)). AreGroupsOf c.args.shape texts c.groups.groups.items) seen c.groups.invariant.2 in
     rw (sym c.eq.ensures ∙ c.if-eq.false) (length c.groups.yielded, c.in-Some.piece.now, c.groups.groups.items, at, before, (c.in-Err.ensures.fault c.in-Err.fault).0 refl)
 
+pub returns-in-Err-push-clause-fault : goal.returns-in-Err-push-clause-fault
+returns-in-Err-push-clause-fault c =
+    let pieces = YieldsList-from_str_split 47 c.args.text.now (omega arith) (search rules) (search rules) (search rules) in
+    let turn = YieldsList-turn pieces c.groups.yielded _ c.groups.yielded_by _ _ c.in-Some.piece c.in-Some.is c.next.ensures.steps in
+    let seen = YieldsList-so_far pieces c.groups.yielded _ c.groups.yielded_by in
+    let all = slice_split (λ byte. byte == 47) c.args.text.now in
+    let at : slice_get all (length c.groups.yielded) ≡ Some c.in-Some.piece.now = slice_get-get_or all (length c.groups.yielded) c.in-Some.piece.now turn.0 ∙ ap Some (sym turn.1) in
+    let before : AreGroupsOf c.args.shape (take (length c.groups.yielded) all) c.groups.groups.items = subst (λ (texts : List (List ℕ)). AreGroupsOf c.args.shape texts c.groups.groups.items) seen c.groups.invariant.2 in
+    rw (sym c.eq.ensures ∙ c.if-eq.false) (length c.groups.yielded, c.in-Some.piece.now, c.groups.groups.items, c.in-Ok.group, at, before, c.in-Ok.ensures.group)
+
 pub groups-preserved : goal.groups-preserved
 groups-preserved c =
     let items : c.push.new.items.items ≡ c.groups.groups.items ++ c.in-Ok.group ∷ [] = c.in_default.ensures.items in
