@@ -1,13 +1,15 @@
 -- The laws of refusals. Each is the contract of a function that does nothing.
-use Rattle.std.specs.Prelude.{ℕ, ◌≡◌, ◌≢◌, List, [], Some}
+use Rattle.std.specs.Prelude.{ℕ, ◌≡◌, ◌≢◌, ◌<◌, ◌≤◌, ◌⊎◌, List, [], Some}
 use Rattle.board.specs.declared.moves.Move.{Move}
 use Rattle.board.specs.Boards.{BoardModel}
+use Rattle.board.specs.Equality.{number_of}
 use Rattle.board.specs.Plans.{Leads, IsStuckAt}
+use Rattle.board.specs.Rows.{HasRow}
 use Rattle.lower_bound.specs.Tables.{BoundModel, IsTables}
 use Rattle.certificate.specs.Certificates.{CertificateModel, IsCertificate}
 use Rattle.certificate_check.specs.declared.refusals.Refusal.{Refusal}
-use Rattle.certificate_check.specs.declared.refusals.Refusal.TheVariants.{IllegalMove, OtherEnd, OtherCost, UnfitGroup}
-use Rattle.certificate_check.specs.Refusals.{ItsPlanLeads, IsProved, IsCause, IsFirstRefusal}
+use Rattle.certificate_check.specs.declared.refusals.Refusal.TheVariants.{IllegalMove, OtherEnd, OtherCost, UnfitGroup, StartUnproved, GoalRow, OpenSuccessor}
+use Rattle.certificate_check.specs.Refusals.{sum_in, AreTablesFit, ItsPlanLeads, IsProved, HasRowAt, LeavesOpenAt, IsCause, IsFirstRefusal}
 
 -- whatever the tables are, a claimed plan with an illegal move is refused for its first such move
 abbrev pub IllegalMovesAreRefusedFirst : Type 0
@@ -40,3 +42,29 @@ ProvedHasNoCause = (c : CertificateModel) (tables : BoundModel) → IsProved c t
 -- and where there is none, it is proved
 abbrev pub NoCauseIsProved : Type 0
 NoCauseIsProved = (c : CertificateModel) (tables : BoundModel) → IsCertificate c → IsTables tables → ((refusal : Refusal) → ¬ IsCause c tables refusal) → IsProved c tables
+
+-- Where the plan leads, if one is claimed, and the tables are fit, the rows are judged. First the start is refused, if its sum is below the cost and
+-- it has no row at 0. Else the row of the goal is, if there is one. Else the first row that leaves a board open is, by the first move to one.
+pub record RowsAreJudgedLast : Type 0 where
+  pub start : (c : CertificateModel) (tables : BoundModel)
+      → ItsPlanLeads c
+      → AreTablesFit c tables
+      → sum_in tables c.start < c.cost
+      → ¬ HasRow c.rows c.start 0
+      → IsFirstRefusal c tables StartUnproved
+  pub goal : (c : CertificateModel) (tables : BoundModel) (place : ℕ)
+      → ItsPlanLeads c
+      → AreTablesFit c tables
+      → HasRow c.rows c.start 0 ⊎ (c.cost ≤ sum_in tables c.start)
+      → HasRowAt c c.goal place
+      → ((p : ℕ) → HasRowAt c c.goal p → p ≡ place)
+      → IsFirstRefusal c tables (GoalRow place)
+  pub open_boards : (c : CertificateModel) (tables : BoundModel) (place : ℕ) (m : Move)
+      → ItsPlanLeads c
+      → AreTablesFit c tables
+      → HasRow c.rows c.start 0 ⊎ (c.cost ≤ sum_in tables c.start)
+      → ((p : ℕ) → ¬ HasRowAt c c.goal p)
+      → LeavesOpenAt c tables place m
+      → ((p : ℕ) (other : Move) → p < place → ¬ LeavesOpenAt c tables p other)
+      → ((other : Move) → number_of other < number_of m → ¬ LeavesOpenAt c tables place other)
+      → IsFirstRefusal c tables (OpenSuccessor place m)

@@ -6,7 +6,7 @@ ghost use Rattle.certificate_check.specs.Laws.{OtherEndsAreRefusedFirst, OtherCo
 ghost use Rattle.certificate_check.specs.Laws.{FoldedTablesAreRefused};
 ghost use Rattle.certificate_check.specs.Laws.{TablesOfAnotherShapeAreRefused};
 ghost use Rattle.certificate_check.specs.Laws.{ProvedWithWholeTables, ProvedHasNoCause};
-ghost use Rattle.certificate_check.specs.Laws.{NoCauseIsProved};
+ghost use Rattle.certificate_check.specs.Laws.{NoCauseIsProved, RowsAreJudgedLast};
 
 use crate::refusals::Refusal;
 
@@ -30,6 +30,13 @@ pub fn plans_are_judged_first()
 pub fn folded_tables_are_refused()
     ensures folded { FoldedTablesAreRefused }
     ensures shape { TablesOfAnotherShapeAreRefused }
+{}
+
+/// Rows are judged behind the plan and the tables: by the start (C5), else by the goal's row (C6),
+/// else by the first board that is left open (C7).
+#[tactic(auto, using(crate::proofs::RefusalLemmas::rows_judged_last))]
+pub fn rows_are_judged_last()
+    ensures { RowsAreJudgedLast }
 {}
 
 /// A certificate is proved with whole tables only, and where there is no cause to refuse it, and
