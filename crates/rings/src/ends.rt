@@ -85,7 +85,7 @@ impl<C: Counting> LaneOut<Packet<C>> for Sender<C> {
     fn push(&mut self, packet: Packet<C>) -> Result<(), Packet<C>>
         ensures ok { OnOk result (TakesIn self.old packet self.new) }
         ensures back { IfErr result (λ back. back ≡ packet) }
-        ensures full { OnErr result ⊤ }
+        ensures full { OnErr result (room_of self.old.ring ≤ length self.old.sent) }
         ensures kept { OnErr result (self.new ≡ self.old) }
     {
         match self.producer.push(packet) {

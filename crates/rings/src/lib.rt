@@ -3,7 +3,8 @@
 //!
 //! - `Sender` and `Receiver` are the ends of an `rtrb` ring, a `LaneOut` and a `LaneIn`. Contracts
 //!   see which ring it is and what passed.
-//! - Either end may refuse for reasons that only the ring knows; nothing has changed then.
+//! - A sender takes as many packets as its ring has room for, and a receiver gives those that it
+//!   has seen. What is refused beyond that only the ring knows; nothing has changed then.
 //! - `open_rings` makes a ring for each ordered pair, and one of a single packet from each worker
 //!   to itself, so loops have no special case. It takes all memory.
 //! - `tie` is lent both ends after the joins: `received ++ left` is `sent`.
