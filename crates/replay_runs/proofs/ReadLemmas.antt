@@ -869,4 +869,11 @@ module _ (setup : SetupModel) (board : BoardModel) (via : Move) where
       ap (λ (x : WorldState). x.book.granted) after ∙ ap (λ (x : AtBook). x.book.granted) becomes ∙ none ∙ ap (λ (k : ℕ). min GREATEST_GRANT k) left
 
 pub set_up : ReplaysOpenAsSetUp
-set_up setup = record { workers = beyond_refused setup; draws = owner_draws setup; grants = limit_grants setup }
+set_up setup = record {
+  workers = beyond_refused setup;
+  draws = owner_draws setup;
+  grants = limit_grants setup;
+  asks = λ board via w is. (ap (λ (x : WorldState). x.task.start) is, ap (λ (x : WorldState). x.task.goal) is, ap (λ (x : WorldState). x.task.rule) is);
+  shape = refl;
+  lacks = λ board refused. refused;
+}

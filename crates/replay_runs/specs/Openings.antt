@@ -34,7 +34,8 @@ setup_jobs setup = jobs_by (owner_by setup.spread) setup
 -- ---- laws: the contracts of functions without effect
 
 -- In the world that a board of the setup opens with, a step of a worker that the setup doesn't have is refused. Only the board's owner draws
--- credit there, by the setup's spread over its workers. What is granted there first is as much as the setup's limit leaves.
+-- credit there, by the setup's spread over its workers. What is granted there first is as much as the setup's limit leaves. Asked for are plans
+-- from the board to the setup's goal, at its costs. Boards have the goal's shape, and none is refused unless memory was.
 pub record OpensAsSetUp (setup : SetupModel) : Type 0 where
   pub workers :
       (board : BoardModel) (via : Move) (i : ℕ) (refusal : Option Refusal) (w : WorldState)
@@ -49,6 +50,12 @@ pub record OpensAsSetUp (setup : SetupModel) : Type 0 where
       (board : BoardModel) (via : Move) (i : ℕ) (w : WorldState)
       → Next (Grant i) (turn (opening ((setup_jobs setup).job board) via) None w)
       → w.book.granted ≡ min GREATEST_GRANT setup.limit
+  pub asks :
+      (board : BoardModel) (via : Move) (w : WorldState)
+      → w ≡ opening ((setup_jobs setup).job board) via
+      → (w.task.start ≡ board) × (w.task.goal ≡ setup.goal) × (w.task.rule ≡ setup.rule)
+  pub shape : (setup_jobs setup).grid ≡ setup.goal.grid
+  pub lacks : (board : BoardModel) → (setup_jobs setup).lacks board → OutOfMemory
 
 abbrev pub ReplaysOpenAsSetUp : Type 0
 ReplaysOpenAsSetUp = (setup : SetupModel) → OpensAsSetUp setup

@@ -94,7 +94,8 @@ pub fn replay_reports_are_true<R: Run, O: Opener<R>>(opener: &O)
 }
 
 /// A replay of a setup opens with the setup's workers, spread and limit: a step of another worker is
-/// refused, only the board's owner draws credit, and no more than the limit is granted.
+/// refused, only the board's owner draws credit, and no more than the limit is granted. It searches
+/// for plans from the board to the setup's goal, and refuses no board unless memory was refused.
 #[tactic(auto, using(crate::proofs::ReadLemmas::set_up))]
 pub fn replays_open_as_set_up()
     ensures { ReplaysOpenAsSetUp }
