@@ -21,7 +21,7 @@ use Rattle.world_model.specs.Books.{BookState}
 use Rattle.world_model.specs.Costs.{IsNotBelow, limit_of}
 use Rattle.world_model.specs.Expansions.{expansion, successor_items, with_closure}
 use Rattle.world_model.specs.Knowledge.{relaxation}
-use Rattle.world_model.specs.StepLaws.{BooksAreLeft, BookStepsAloneUseIt, FloorsAreHigh, HasHighFloors, HighFloorsReachTheLimit, LanesAreLeft, LanesHaveTwoEnds, LeastIsExpanded, MemoryIsLast, OthersAreLeft, RestsKeepTheFloor, RunsAreJoined, RunsAreOfSteps, UsesBook, UsesLane, worker_of_step}
+use Rattle.world_model.specs.StepLaws.{BooksAreLeft, BooksGoOneWay, BookStepsAloneUseIt, FloorsAreHigh, HasHighFloors, HighFloorsReachTheLimit, LanesAreLeft, LanesHaveTwoEnds, LeastIsExpanded, MemoryIsLast, OthersAreLeft, RestsKeepTheFloor, RunsAreJoined, RunsAreOfSteps, StopsAreFinal, UsesBook, UsesLane, worker_of_step}
 use Rattle.world_model.specs.Steps.{ByWorker, Ends, IsRun, Next, OnBook, OnLane, lane_ends, with_worker}
 use Rattle.world_model.specs.Turns.{Turn, turn}
 use Rattle.world_model.specs.WorkerSteps.{AtLane, DeliverStep, ExpandStep, SendStep, SettleStep}
@@ -29,7 +29,7 @@ use Rattle.world_model.specs.Workers.{HasNothingBelow, IsFloor, IsNext, IsOpen, 
 use Rattle.world_model.specs.Worlds.{IsLane, IsWorker, WorldState, role_of}
 use Rattle.world_model.proofs.ChangeLemmas.{all_from_places, at_replicate, get_set_other, get_set_same, set_same, entry, same_search_key, same_known, with_insert, changed, lane_after, lane_before}
 use Rattle.world_model.proofs.ExpandLemmas.{all_known}
-use Rattle.world_model.proofs.CreditLemmas.{limit_falls, lower_best, not_below_stable}
+use Rattle.world_model.proofs.CreditLemmas.{limit_falls, lower_best, not_below_itself, not_below_stable}
 use Rattle.world_model.proofs.StepCases.{Accepts, Announces, BookChange, Cases, Draws, Expands, Grants, Halts, LaneChange, OwnChange, Rests, expand_cases, next_cases}
 
 -- what steps answer that take no memory
@@ -398,6 +398,42 @@ floors_reach book i floor high at =
 
 pub floors_high : FloorsAreHigh
 floors_high = (λ job via. opening_high job.count (limit_of None), steps_high)
+
+-- a book that has stopped is left; in any other the best cost may fall, and more may be granted
+abbrev OneWay : BookState → BookState → Type 0
+OneWay x y = (x.stop ≢ None → y ≡ x) × IsNotBelow x.best y.best × (x.granted ≤ y.granted)
+
+same_way : (x y : BookState) → y ≡ x → OneWay x y
+same_way x y same =
+    let granted = ap (λ (z : BookState). z.granted) same in
+    ((λ stopped. same), subst (λ (z : BookState). IsNotBelow x.best z.best) (sym same) (not_below_itself x.best), omega (arith, granted))
+
+book_way : (w w' : WorldState) (i : ℕ) (Change : AtBook → AtBook → Type 0) → ((x y : AtBook) → Change x y → OneWay x.book y.book) → BookChange i Change w w' → OneWay w.book w'.book
+book_way w w' i Change way step = subst (λ (v : WorldState). OneWay w.book v.book) (sym step.is) (way (record { worker = step.worker; book = w.book }) step.new step.change)
+
+accepts_way : (step : Step) (w w' : WorldState) → Accepts step w w' → OneWay w.book w'.book
+accepts_way (Expand i) w w' step = same_way w.book w'.book (ap book_of step.is)
+accepts_way (Settle i) w w' step = same_way w.book w'.book (ap book_of step.is)
+accepts_way (Send i j) w w' step = same_way w.book w'.book (ap book_of step.is)
+accepts_way (Deliver i j) w w' step = same_way w.book w'.book (ap book_of step.is)
+accepts_way (Draw i) w w' step = book_way w w' i Draws (λ x y h. subst (λ (z : AtBook). OneWay x.book z.book) (sym h.is) ((λ stopped. absurd (h.runs stopped)), not_below_itself x.book.best, omega arith)) step
+accepts_way (Announce i) w w' step = book_way w w' i (Announces (role_of w i)) (λ x y h. subst (λ (z : AtBook). OneWay x.book z.book) (sym h.is) ((λ stopped. absurd (h.runs stopped)), lower_best h.cost x.book.best h.may.lower, omega arith)) step
+accepts_way (Grant i) w w' step = book_way w w' i (Grants (role_of w i)) (λ x y h. subst (λ (z : AtBook). OneWay x.book z.book) (sym h.is) ((λ stopped. absurd (h.runs stopped)), not_below_itself x.book.best, omega arith)) step
+accepts_way (Rest i) w w' step = book_way w w' i (Rests (role_of w i)) (λ x y h. subst (λ (z : AtBook). OneWay x.book z.book) (sym h.is) ((λ stopped. absurd (h.runs stopped)), not_below_itself x.book.best, omega arith)) step
+accepts_way (Halt i cause) w w' step = book_way w w' i (Halts cause) (λ x y h. subst (λ (z : AtBook). OneWay x.book z.book) (sym h.is) ((λ stopped. absurd (h.runs stopped)), not_below_itself x.book.best, omega arith)) step
+
+pub books_one_way : BooksGoOneWay
+books_one_way step it next = split (next_cases step it next)
+  where
+    split : Cases it (Accepts step it.before it.after) → OneWay it.before.book it.after.book
+    split (inl out) = same_way it.before.book it.after.book (ap book_of out.1.1)
+    split (inr done) = accepts_way step it.before it.after done.1
+
+pub stops_final : StopsAreFinal
+stops_final w w' [] run stopped = ap book_of run
+stops_final w w' (first ∷ made) run stopped =
+    let here : run.0.book ≡ w.book = (books_one_way first.0 (turn w first.1 run.0) run.1).0 stopped in
+    stops_final run.0 w' made run.2 (λ none. stopped (ap (λ (b : BookState). b.stop) (sym here) ∙ none)) ∙ here
 
 -- runs
 pub runs_of_steps : RunsAreOfSteps

@@ -191,3 +191,16 @@ BookStepsAloneUseIt =
 -- a lane may be changed by its sender, which sends, and by its receiver, which takes in
 abbrev pub LanesHaveTwoEnds : Type 0
 LanesHaveTwoEnds = (step : Step) (from to : ℕ) → UsesLane step from to → (step ≡ Send from to) ⊎ (step ≡ Deliver to from)
+
+-- A step leaves a book that has stopped as it was. The best cost of any other may fall, and what is granted may rise, but not the other way.
+abbrev pub BooksGoOneWay : Type 0
+BooksGoOneWay =
+    (step : Step) (it : Turn WorldState Refusal)
+    → Next step it
+    → (it.before.book.stop ≢ None → it.after.book ≡ it.before.book)
+    × IsNotBelow it.before.book.best it.after.book.best
+    × (it.before.book.granted ≤ it.after.book.granted)
+
+-- so a stop is final: a run that goes on from there leaves the book, and what stopped it
+abbrev pub StopsAreFinal : Type 0
+StopsAreFinal = (w w' : WorldState) (made : List (Step × Option Refusal)) → IsRun w made w' → w.book.stop ≢ None → w'.book ≡ w.book
