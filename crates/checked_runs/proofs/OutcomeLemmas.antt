@@ -16,7 +16,7 @@ use Rattle.hda_run.specs.Jobs.{JobModel, task_in}
 use Rattle.thread_runs.specs.Solved.{IsSolved}
 use Rattle.checked_runs.specs.Certificates.{certificate_in, AreAsGood}
 use Rattle.checked_runs.specs.Checked.{IsProvedWith, IsCheckedRun, IsRefusedRun}
-use Rattle.checked_runs.specs.Laws.{BoundsAreAccepted, BoundsHaveCertificates, PlansAreAccepted, PlansHaveCertificates, TablesFoldedFromAreAsGood, CheckedRunsAreRuns, CheckedPlansAreSolved}
+use Rattle.checked_runs.specs.Laws.{BoundsAreAccepted, BoundsHaveCertificates, PlansAreAccepted, PlansHaveCertificates, TablesFoldedFromAreAsGood, CheckedRunsAreRuns, CheckedPlansAreSolved, RefusedRunsAreTheirs}
 use Rattle.checked_runs.specs.declared.faults.CheckedFault.{CheckedFault}
 use Rattle.checked_runs.specs.declared.faults.CheckedFault.TheVariants.{WorkerCount, Memory, Refused}
 use Rattle.std.specs.List.{AllByRecursion}
@@ -30,6 +30,7 @@ use Rattle.lower_bound.specs.Bounds.{Part, sum_of}
 use Rattle.lower_bound.specs.Folded.{AreFolded, folded_parts, part_folded}
 use Rattle.lower_bound.proofs.PartLemmas.{each_lookup, table_grids, whole_parts, all_folded_parts}
 use Rattle.certificate_check.proofs.RowLemmas.{proved_above, folded_below}
+use Rattle.certificate_check.proofs.RefusalLemmas.{proved_has_none}
 use Rattle.board.specs.Shapes.{ShapeModel}
 use Rattle.board.specs.Weights.{WeightsModel}
 use Rattle.board.specs.Laws.{KeysAreInOrder}
@@ -114,6 +115,11 @@ module _ {S : Type 0} (owner_of : S → ℕ → BoardModel → ℕ) where
   pub plans_solved : CheckedPlansAreSolved owner_of
   plans_solved p owners n cost plan rows (inl solved) = solved
   plans_solved p owners n cost plan rows (inr (cost', plan', rows', refused, solved, is)) = absurd (cc)
+
+  -- what is refused for a cause isn't proved
+  pub refusals_theirs : RefusedRunsAreTheirs owner_of
+  refusals_theirs p owners n tables refusal (cost, plan, rows, solved, first) =
+      (cost, plan, rows, solved, first, λ proved. proved_has_none (certificate_in p cost plan.items rows.items) tables proved refusal first.0)
 
 -- ---- Whole tables, and those that were folded from them.
 

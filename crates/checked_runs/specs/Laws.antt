@@ -17,7 +17,7 @@ use Rattle.board.specs.Rows.{Proves}
 use Rattle.certificate.specs.declared.certificate.TheConstants.{GREATEST_BOUND}
 use Rattle.certificate.specs.declared.certificate.Version.TheVariants.{Two}
 use Rattle.certificate.specs.Certificates.{AreCostsOf, IsCertificate}
-use Rattle.certificate_check.specs.Refusals.{IsProved, sum_in}
+use Rattle.certificate_check.specs.Refusals.{IsProved, IsFirstRefusal, sum_in}
 use Rattle.hda_run.specs.Jobs.{JobModel, task_in}
 use Rattle.certificate_check.specs.declared.refusals.Refusal.{Refusal}
 use Rattle.thread_runs.specs.Solved.{IsSolved}
@@ -130,3 +130,14 @@ module _ {S : Type 0} (owner_of : S → ℕ → BoardModel → ℕ) where
       (p : JobModel) (owners : S) (n : ℕ) (outcome : Outcome)
       → IsCheckedRun owner_of p owners n outcome
       → IsSolved owner_of p owners n outcome ⊎ IsUncertifiedPlan owner_of p owners n outcome
+
+  -- A certificate that a checked run refuses is that of a plan of n workers, or of one alone. The refusal is the first cause against it, so it
+  -- isn't proved with these tables.
+  abbrev pub RefusedRunsAreTheirs : Type 0
+  RefusedRunsAreTheirs =
+      (p : JobModel) (owners : S) (n : ℕ) (tables : BoundModel) (refusal : Refusal)
+      → IsRefusedRun owner_of p owners n tables refusal
+      → (cost : ℕ) × (plan : Vec Move Global) × (rows : Vec (BoardModel × ℕ) Global)
+      × IsSolved owner_of p owners n (Optimal cost plan rows)
+      × IsFirstRefusal (certificate_in p cost plan.items rows.items) tables refusal
+      × ¬ IsProved (certificate_in p cost plan.items rows.items) tables

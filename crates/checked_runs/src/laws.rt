@@ -5,6 +5,7 @@ ghost use Rattle.checked_runs.specs.Laws.{BoundsAreAccepted, PlansAreAccepted, P
 ghost use Rattle.checked_runs.specs.Laws.{BoundsHaveCertificates, PlansHaveCertificates};
 ghost use Rattle.checked_runs.specs.Laws.{ProvedBoundsHold, CheckedRunsAreRuns};
 ghost use Rattle.checked_runs.specs.Laws.{CheckedPlansAreSolved, CheckedRunsAreTheirs};
+ghost use Rattle.checked_runs.specs.Laws.{RefusedRunsAreTheirs};
 ghost use Rattle.checked_runs.specs.Laws.{UncertifiedPlansGiveTheirCost};
 
 use board::laws::keys_are_in_order;
@@ -64,9 +65,11 @@ pub fn checked_runs_are_runs<S: Spread>()
 {}
 
 /// A plan that a checked run calls least is that of n workers, or of one alone. So is each other
-/// outcome, unless it is the cost of their plan, for whose groups memory was refused.
-#[tactic(auto, using(crate::proofs::OutcomeLemmas::plans_solved))]
+/// outcome, unless it is the cost of their plan, for whose groups memory was refused. A certificate
+/// that is refused is that of a plan of theirs, too, and isn't proved.
+#[tactic(auto, using(crate::proofs::OutcomeLemmas::plans_solved, crate::proofs::OutcomeLemmas::refusals_theirs))]
 pub fn checked_plans_are_solved<S: Spread>()
     ensures plans { CheckedPlansAreSolved S.owner_of }
     ensures others { CheckedRunsAreTheirs S.owner_of }
+    ensures refused { RefusedRunsAreTheirs S.owner_of }
 {}
