@@ -15,7 +15,9 @@ use world_model::Refusal;
 // time another worker hardly fills more than one packet, and one is taken in from each.
 const EXPANSIONS_IN_A_ROUND: u32 = 16;
 
-/// Works with a part until the book has stopped, and gives it back with the face that it had.
+/// Works with a part until the book has stopped, and gives it back with the face that it had. No
+/// contract says that it works, or that the book has stopped: both are read after the joins, from
+/// the parts and the book.
 pub fn work<'a, S: Spread, C: Tokens, R: Wait, G: Gate>(
     site: &Site<'_, R, G, C>,
     sealed: Sealed<'a, S, C>,
