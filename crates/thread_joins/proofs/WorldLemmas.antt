@@ -592,7 +592,7 @@ module _ {S X : Type 0} (gives : WorldState → X → Type 0) (owner_of : S → 
       let granted : w.book.granted ≡ book.granted = ap (λ (b : BookState). b.granted) is in
       let low = within_grants (job_of owner_of p owners n) w joined in
       let high = joined.spent in
-      (w, given, joined.count, omega (arith, granted, low), omega (arith, granted, high))
+      (w, joined, is, kept, given, joined.count, omega (arith, granted, low), omega (arith, granted, high))
 
 no_total : (workers : List WorkerState) → ((i : ℕ) (worker : WorkerState) → slice_get workers i ≡ Some worker → worker.purse ≡ 0) → sum_by (λ worker. worker.purse) workers ≡ 0
 no_total [] none = refl

@@ -14,6 +14,7 @@ use Rattle.world_model.specs.Openings.{Job}
 use Rattle.world_model.specs.Quiet.{IsKept}
 use Rattle.world_model.specs.Worlds.{WorldState, IsUnderWay}
 use Rattle.hda_run.specs.Jobs.{JobModel}
+use Rattle.hda_run.specs.Worlds.{job_of}
 use Rattle.thread_joins.specs.Threads.{IsJoined, GivesIfKept, IsFoundWithBook}
 
 -- a joined world has as many workers as the job says, and each board has the owner that the job says, one of them
@@ -75,13 +76,13 @@ module _ {S X : Type 0} (gives : WorldState → X → Type 0) (owner_of : S → 
       → ((book.stop ≡ None) ⊎ (book.stop ≡ Some Start) → found ≡ None)
       × ((want : Want) → book.stop ≡ Some (Memory want) → found ≢ None)
 
-  -- The world that gives what n threads find has expanded what the shared book granted, except at most one grant for each of
-  -- them.
+  -- What n threads find is given by a kept world of their joined workers, with the shared book. It has expanded what that book granted,
+  -- except at most one grant for each of them.
   abbrev pub FindingsSpendTheirGrants : Type 0
   FindingsSpendTheirGrants =
       (p : JobModel) (owners : S) (n : ℕ) (book : BookState) (it : X)
       → IsFoundWithBook gives owner_of p owners n book (Some it)
-      → (w : WorldState) × gives w it × (length w.workers ≡ n)
+      → (w : WorldState) × IsJoined (job_of owner_of p owners n) w × (w.book ≡ book) × IsKept w × gives w it × (length w.workers ≡ n)
       × (expansion_count w ≤ book.granted) × (book.granted ≤ expansion_count w + GREATEST_GRANT * n)
 
 -- no list of steps stopped it

@@ -37,8 +37,8 @@ pub fn kept_worlds_alone_give<A: Reading>()
 {}
 
 /// Nothing is found where the shared book says that the run went on, or that a thread could not be
-/// started. Where memory was refused something is. What threads expanded is what their book granted,
-/// except at most one grant for each.
+/// started. Where memory was refused something is. What is found is given by a kept world of the
+/// joined threads, which have expanded what their book granted, except at most one grant for each.
 pub fn findings_are_of_their_books<A: Reading, S: Spread>()
     ensures found { BooksSayWhatIsFound A.gives S.owner_of }
     ensures spent { FindingsSpendTheirGrants A.gives S.owner_of }
