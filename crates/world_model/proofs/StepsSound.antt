@@ -17,6 +17,7 @@ use Rattle.world_model.specs.Workers.{IsOpen, IsTaskBoard, WorkerState, packet_f
 use Rattle.world_model.specs.Worlds.{IsUnderWay, IsWorker, Knows, LiesIn, WorldState, role_of, IsLane}
 use Rattle.world_model.specs.Books.{BookState}
 use Rattle.world_model.specs.Steps.{with_lane, Next}
+use Rattle.world_model.specs.StepLaws.{NothingIsForgotten}
 use Rattle.world_model.specs.declared.steps.Refusal.{Refusal}
 use Rattle.world_model.specs.declared.steps.Step.{Step}
 use Rattle.world_model.specs.declared.steps.Step.TheVariants.{Expand, Settle, Send, Deliver, Draw, Announce, Grant, Rest, Halt}
@@ -26,7 +27,8 @@ use Rattle.world_model.specs.WorkerSteps.{AtLane}
 use Rattle.world_model.proofs.ChangeLemmas.{entry, same_search_key, with_insert, knows_owned, moved_task_board, changed, worker_there, lane_there, get_set_other, at_set, none_in_empty, head_in, later_in, cons_cases, is_empty}
 use Rattle.world_model.proofs.ShapeKept.{slots, some_unsent}
 use Rattle.world_model.proofs.ChangeLemmas as change
-use Rattle.world_model.proofs.SoundLemmas.{Remembers, predecessor_kept, sound_kept, moved_sound, settle_sound}
+use Rattle.world_model.proofs.SoundLemmas.{Remembers, predecessor_kept, sound_kept, moved_remembers, moved_sound, settle_sound}
+use Rattle.world_model.proofs.SoundLemmas as settling
 use Rattle.world_model.proofs.ExpandLemmas.{Among, IsUnsent, HasSlots, all_known, all_lower, all_there, all_unsent, all_put, all_back, all_held, offered, offers_all, offered_board}
 use Rattle.world_model.proofs.StepCases.{IsSame, IsKeptByBook, draw_same, announce_same, grant_same, rest_same, halt_same, Cases, BookChange, Accepts, next_cases}
 
@@ -260,6 +262,9 @@ module _ (w : WorldState) (sound : IsSound w) (i : ℕ) (worker : WorkerState) (
   pub book_sound : IsSound (changed w i new book w.lanes)
   book_sound = moved_sound w i worker is new book w.lanes same.known sound bound_there bound_back
 
+  pub book_remembers : Remembers w (changed w i new book w.lanes)
+  book_remembers = moved_remembers w i worker is new book w.lanes same.known bound_there
+
 -- worker i sends what is unsent for worker j
 module _ (w : WorldState) (sound : IsSound w) (i j : ℕ) (worker : WorkerState) (is : IsWorker w i worker) (lane : List (List Item)) (at : IsLane w i j lane) (packet : List Item) (unsent : slice_get worker.unsent j ≡ Some packet) where
   sent : WorkerState
@@ -346,6 +351,10 @@ module _ (w : WorldState) (sound : IsSound w) (i j : ℕ) (worker : WorkerState)
   unfolding sent sent_world
   send_sound = moved_sound w i worker is sent w.book (with_lane w.lanes i j (lane ++ packet ∷ [])) refl sound send_there send_back
 
+  pub send_remembers : Remembers w (changed w i (record worker { unsent = slice_set worker.unsent j []; purse = worker.purse - 1 }) w.book (with_lane w.lanes i j (lane ++ packet ∷ [])))
+  unfolding sent sent_world
+  send_remembers = moved_remembers w i worker is sent w.book (with_lane w.lanes i j (lane ++ packet ∷ [])) refl send_there
+
 -- worker i takes the first packet out of the lane from worker j
 module _ (w : WorldState) (sound : IsSound w) (i j : ℕ) (worker : WorkerState) (is : IsWorker w i worker) (lane : List (List Item)) (at : IsLane w j i lane) (free : worker.held ≡ []) (packet : List Item) (rest : List (List Item)) (first : lane ≡ packet ∷ rest) where
   delivered : WorkerState
@@ -402,6 +411,10 @@ module _ (w : WorldState) (sound : IsSound w) (i j : ℕ) (worker : WorkerState)
   unfolding delivered emptier
   deliver_sound = moved_sound w i worker is delivered w.book (with_lane w.lanes j i rest) refl sound deliver_there deliver_back
 
+  pub deliver_remembers : Remembers w (changed w i (record worker { held = packet; purse = worker.purse + 1 }) w.book (with_lane w.lanes j i rest))
+  unfolding delivered emptier
+  deliver_remembers = moved_remembers w i worker is delivered w.book (with_lane w.lanes j i rest) refl deliver_there
+
 -- ---- each step keeps a world sound
 
 on_book : (w w' : WorldState) (i : ℕ) (Change : AtBook → AtBook → Type 0) → ((x y : AtBook) → Change x y → IsKeptByBook x y) → IsSound w → BookChange i Change w w' → IsSound w'
@@ -432,3 +445,46 @@ steps_sound step it next shaped sound = split (next_cases step it next)
     split : Cases it (Accepts step it.before it.after) → IsSound it.after
     split (inl out) = subst IsSound (sym out.1.1) sound
     split (inr done) = accepts_sound step it.before it.after shaped sound done.1
+
+-- ---- and no step forgets anything
+
+book_remembered : (w w' : WorldState) (i : ℕ) (Change : AtBook → AtBook → Type 0) → ((x y : AtBook) → Change x y → IsKeptByBook x y) → IsSound w → BookChange i Change w w' → Remembers w w'
+book_remembered w w' i Change keeps sound step = subst (Remembers w) (sym step.is) (book_remembers w sound i step.worker step.at step.new.worker (keeps (record { worker = step.worker; book = w.book }) step.new step.change).worker step.new.book)
+
+accepts_remember : (step : Step) (w w' : WorldState) → IsShaped w → IsSound w → Accepts step w w' → Remembers w w'
+accepts_remember (Expand i) w w' shaped sound step =
+    subst (Remembers w) (sym step.is) (subst (λ x. Remembers w (changed w i x w.book w.lanes)) (sym step.change.is) (expand_remembers w shaped sound i step.worker step.at step.change.board step.change.known step.change.next.opens))
+accepts_remember (Settle i) w w' shaped sound step =
+    subst (Remembers w) (sym step.is) (subst (λ x. Remembers w (changed w i x w.book w.lanes)) (sym step.change.is) (settling.remembered w shaped sound i step.worker step.at step.change.front step.change.last step.change.held))
+accepts_remember (Send i j) w w' shaped sound step =
+    subst (Remembers w) (sym step.is)
+    (subst (λ (x : AtLane). Remembers w (changed w i x.worker w.book (with_lane w.lanes i j x.lane))) (sym step.change.is)
+    (send_remembers w sound i j step.worker step.at step.lane step.at_lane (packet_for step.worker j) (some_unsent (slice_get step.worker.unsent j) step.change.some)))
+accepts_remember (Deliver i j) w w' shaped sound step =
+    subst (Remembers w) (sym step.is)
+    (subst (λ (x : AtLane). Remembers w (changed w i x.worker w.book (with_lane w.lanes j i x.lane))) (sym step.change.is)
+    (deliver_remembers w sound i j step.worker step.at step.lane step.at_lane (is_empty step.worker.held step.change.free) step.change.packet step.change.rest step.change.first))
+accepts_remember (Draw i) w w' shaped sound step = book_remembered w w' i _ draw_same sound step
+accepts_remember (Announce i) w w' shaped sound step = book_remembered w w' i _ (announce_same (role_of w i)) sound step
+accepts_remember (Grant i) w w' shaped sound step = book_remembered w w' i _ (grant_same (role_of w i)) sound step
+accepts_remember (Rest i) w w' shaped sound step = book_remembered w w' i _ (rest_same (role_of w i)) sound step
+accepts_remember (Halt i cause) w w' shaped sound step = book_remembered w w' i _ (halt_same cause) sound step
+
+all_remembered : (w : WorldState) → Remembers w w
+all_remembered w = record {
+  lower = λ i b known knows. (known, knows, omega arith);
+  items = λ to offer bound. inr (to, offer, bound, refl, omega arith);
+}
+
+steps_remember : (step : Step) (it : Turn WorldState Refusal) → Next step it → IsShaped it.before → IsSound it.before → Remembers it.before it.after
+steps_remember step it next shaped sound = split (next_cases step it next)
+  where
+    split : Cases it (Accepts step it.before it.after) → Remembers it.before it.after
+    split (inl out) = subst (Remembers it.before) (sym out.1.1) (all_remembered it.before)
+    split (inr done) = accepts_remember step it.before it.after shaped sound done.1
+
+pub nothing_forgotten : NothingIsForgotten
+nothing_forgotten = record {
+  boards = λ step it next shaped sound. (steps_remember step it next shaped sound).lower;
+  items = λ step it next shaped sound. (steps_remember step it next shaped sound).items;
+}

@@ -5,6 +5,7 @@ use Rattle.board.specs.declared.moves.Move.{Move}
 use Rattle.board.specs.Weights.{WeightsModel}
 use Rattle.board.specs.Moves.{Moves}
 use Rattle.board.specs.Boards.{IsBoard, BoardModel}
+use Rattle.world_model.specs.declared.parts.Item.{Item}
 use Rattle.world_model.specs.declared.parts.Known.{Known}
 use Rattle.world_model.specs.declared.steps.HaltCause.{HaltCause}
 use Rattle.world_model.specs.declared.steps.Refusal.{Refusal}
@@ -17,9 +18,11 @@ use Rattle.world_model.specs.Workers.{WorkerState, Role, Lane, KnowsAs, IsOpen, 
 use Rattle.world_model.specs.Expansions.{move_back, moves_but}
 use Rattle.world_model.specs.Books.{BookState}
 use Rattle.world_model.specs.WorkerSteps.{ExpandStep}
-use Rattle.world_model.specs.Worlds.{WorldState, IsWorker, IsLane}
+use Rattle.world_model.specs.Worlds.{WorldState, IsWorker, IsLane, IsUnderWay, Knows}
 use Rattle.world_model.specs.Steps.{Next, IsRun}
 use Rattle.world_model.specs.Openings.{Job, opening}
+use Rattle.world_model.specs.Shapes.{IsShaped}
+use Rattle.world_model.specs.Soundness.{IsCovered, IsSound}
 
 -- the worker that takes the step
 abbrev pub worker_of_step : Step → ℕ
@@ -204,3 +207,23 @@ BooksGoOneWay =
 -- so a stop is final: a run that goes on from there leaves the book, and what stopped it
 abbrev pub StopsAreFinal : Type 0
 StopsAreFinal = (w w' : WorldState) (made : List (Step × Option Refusal)) → IsRun w made w' → w.book.stop ≢ None → w'.book ≡ w.book
+
+-- No step of a sound world forgets anything. A worker that knows a board knows it after the step, at no higher cost. The board of an item
+-- that is under way is then known to its owner, or still under way, at no higher cost.
+pub record NothingIsForgotten : Type 0 where
+  pub boards :
+      (step : Step) (it : Turn WorldState Refusal)
+      → Next step it
+      → IsShaped it.before
+      → IsSound it.before
+      → (i : ℕ) (b : BoardModel) (known : Known)
+      → Knows it.before i b known
+      → (now : Known) × Knows it.after i b now × (now.cost ≤ known.cost)
+  pub items :
+      (step : Step) (it : Turn WorldState Refusal)
+      → Next step it
+      → IsShaped it.before
+      → IsSound it.before
+      → (to : ℕ) (item : Item)
+      → IsUnderWay it.before to item
+      → IsCovered it.after item.board item.cost
