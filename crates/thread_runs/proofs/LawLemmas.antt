@@ -11,31 +11,33 @@ use Rattle.board.specs.declared.moves.Move.TheVariants.{U}
 use Rattle.board.specs.Boards.{BoardModel}
 use Rattle.board.specs.Rows.{IsLowerBound}
 use Rattle.owners.specs.Owners.{AreWorkers}
-use Rattle.outcomes.specs.Outcomes.{Task}
+use Rattle.outcomes.specs.Outcomes.{Task, Answers}
 use Rattle.outcomes.specs.declared.outcome.Want.TheVariants.{Stated, Refused}
 use Rattle.outcomes.specs.declared.outcome.Ending.{Ending}
 use Rattle.outcomes.specs.declared.outcome.Ending.TheVariants.{Optimal, Unsolvable, Bounded}
 use Rattle.world_model.specs.Openings.{IsJob, opening, idle_worker, first_worker}
 use Rattle.world_model.specs.Shapes.{IsTask}
 use Rattle.world_model.specs.Worlds.{WorldState}
-use Rattle.world_model.proofs.RunLemmas.{expansions_limited, openings_sound}
-use Rattle.world_ends.specs.Readings.{BoundsAreOfWorlds, HasBoundOf}
+use Rattle.world_model.proofs.RunLemmas.{expansions_limited, openings_sound, quiet_true, run_alike, runs_sound}
+use Rattle.world_ends.specs.Readings.{BoundsAreOfWorlds, HasBoundOf, WorldsAnswer}
 use Rattle.world_model.proofs.KeptLemmas.{kept_never_cut, causes_stop}
 use Rattle.hda_run.specs.WholeRuns.{EndsWholeRun, IsOfWholeRun}
 use Rattle.hda_run.specs.Worlds.{job_of, IsWorkerCount}
 use Rattle.hda_run.proofs.LawLemmas.{never_stated}
+use Rattle.thread_joins.proofs.WorldLemmas.{joined_answers}
 use Rattle.thread_joins.specs.Laws.{JoinedWorldsAnswer}
-use Rattle.thread_runs.specs.Solved.{IsLeftToOne}
+use Rattle.thread_runs.specs.Solved.{IsFoundByWorkers, IsLeftToOne}
 use Rattle.outcomes.specs.declared.outcome.Cause.{Cause}
 use Rattle.outcomes.specs.declared.outcome.Cause.TheVariants.{Limit, Memory, Start, Cost, Cut}
 use Rattle.outcomes.specs.declared.outcome.Outcome.{Outcome}
-use Rattle.outcomes.specs.Endings.{without_rows}
+use Rattle.outcomes.specs.Endings.{without_rows, EndAnswers}
 use Rattle.world_model.specs.Outcomes.{IsGiven}
 use Rattle.world_ends.specs.Endings.{EndsIn}
-use Rattle.world_ends.proofs.PartLemmas.{bounds_alone, rows_alone, ends_bounded}
+use Rattle.world_ends.proofs.PartLemmas.{bounds_alone, rows_alone, ends_answer, ends_bounded}
+use Rattle.world_model.proofs.OutcomeLemmas.{outcomes_answer}
 use Rattle.world_model.specs.Credit.{expansion_count}
 use Rattle.world_model.specs.declared.limits.TheConstants.{GREATEST_GRANT}
-use Rattle.thread_runs.specs.Laws.{HasItsRows, IsLimitCostOrMemory, WholeRunsSayWhy, OneIsAlone, SeveralAreJoined, SolvedRunsEnd, LimitsAreKept, FiguresAreWithinTheLimit, FiguresSpendTheLimit, ThreadsAreAsAsked}
+use Rattle.thread_runs.specs.Laws.{HasItsRows, IsLimitCostOrMemory, WholeRunsSayWhy, OneIsAlone, SeveralAreJoined, SolvedRunsEnd, LimitsAreKept, FiguresAreWithinTheLimit, FiguresSpendTheLimit, ThreadsAreAsAsked, SolvedRunsAnswer}
 use Rattle.world_model.specs.declared.steps.Stop.TheVariants as stops
 use Rattle.outcomes.specs.declared.outcome.Outcome.TheVariants as outcome
 
@@ -203,8 +205,29 @@ module _ {S X : Type 0} (gives : WorldState → X → Type 0) (owner_of : S → 
   several_joined p owners n it (inr (run, inr left)) enough = inr (run, left)
 
   pub limits_kept : LimitsAreKept gives owner_of
-  limits_kept p owners n it (inl (several, (w, joined, (kept, given)))) = (w, given, joined.within_limit)
-  limits_kept p owners n it (inr ((w, run, given), left)) = (w, given, run.within_limit)
+  limits_kept p owners n it (inl (several, (w, joined, (kept, given)))) = (w, inl (several, joined, kept), given, joined.within_limit)
+  limits_kept p owners n it (inr ((w, run, given), left)) = (w, inr run, given, run.within_limit)
 
   pub as_asked : ThreadsAreAsAsked gives owner_of
-  as_asked p owners n it (w, joined, (kept, given)) = (w, given, joined.count, joined.owners)
+  as_asked p owners n it (w, joined, (kept, given)) = (w, joined, kept, given, joined.count, joined.owners)
+
+-- what is found answers the problem, in each reading whose worlds give true answers
+module _ {S X : Type 0} (gives : WorldState → X → Type 0) (answers : Task → X → Type 0) (worlds : WorldsAnswer gives answers) (owner_of : S → ℕ → BoardModel → ℕ) where
+  found_true : (p : JobModel) (owners : S) (n : ℕ) (it : X) → AreWorkers owner_of → IsTask (task_in p) → IsLowerBound p.rule (task_in p).sum p.goal → IsFoundByWorkers gives owner_of p owners n it → answers (task_in p) it
+  found_true p owners n it are_workers task lower (inl (several, (w, joined, (kept, given)))) =
+      joined_answers gives answers worlds (job_of owner_of p owners n) w it joined kept lower given
+  found_true p owners n it are_workers task lower (inr ((w, run, given), left)) =
+      let job = job_of owner_of p owners 1 in
+      let made = run.first ++ run.last in
+      let is : IsJob job = record { task = task; some = omega arith; few = omega arith; owners = λ b. are_workers owners 1 b (omega arith) } in
+      let sound = runs_sound job run.via made w is run.run in
+      let same : w.task ≡ task_in p = (run_alike (opening job run.via) made w run.run).0 in
+      let below : IsLowerBound w.task.rule w.task.sum w.task.goal = subst (λ (t : Task). IsLowerBound t.rule t.sum t.goal) (sym same) lower in
+      subst (λ (t : Task). answers t it) same (worlds w it sound.0 sound.1 (quiet_true w sound.0 sound.2) below given)
+
+module _ {S : Type 0} (owner_of : S → ℕ → BoardModel → ℕ) where
+  pub solved_answer : SolvedRunsAnswer owner_of
+  solved_answer = record {
+    rows = λ p owners n it are_workers task lower solved. found_true IsGiven Answers outcomes_answer owner_of p owners n it are_workers task lower solved;
+    ends = λ p owners n it are_workers task lower found. found_true EndsIn EndAnswers (ends_answer outcomes_answer) owner_of p owners n it are_workers task lower found;
+  }

@@ -4,23 +4,28 @@ use Rattle.std.specs.declared.alloc.Global.{Global}
 use Rattle.memory.specs.declared.OutOfMemory.{OutOfMemory}
 use Rattle.board.specs.declared.moves.Move.{Move}
 use Rattle.board.specs.Boards.{BoardModel}
+use Rattle.board.specs.Rows.{IsLowerBound}
 use Rattle.outcomes.specs.declared.outcome.Cause.{Cause}
 use Rattle.outcomes.specs.declared.outcome.Cause.TheVariants.{Limit, Cost, Memory}
 use Rattle.outcomes.specs.declared.outcome.Want.TheVariants.{Refused}
+use Rattle.outcomes.specs.declared.outcome.Ending.{Ending}
 use Rattle.outcomes.specs.declared.outcome.Ending.TheVariants as ending
 use Rattle.outcomes.specs.declared.outcome.Outcome.{Outcome}
 use Rattle.outcomes.specs.declared.outcome.Outcome.TheVariants as outcome
-use Rattle.outcomes.specs.Endings.{without_rows}
+use Rattle.outcomes.specs.Endings.{without_rows, EndAnswers}
+use Rattle.outcomes.specs.Outcomes.{Answers}
+use Rattle.owners.specs.Owners.{AreWorkers}
 use Rattle.world_model.specs.declared.limits.TheConstants.{GREATEST_GRANT}
 use Rattle.world_model.specs.Credit.{expansion_count}
 use Rattle.world_model.specs.Quiet.{IsKept}
+use Rattle.world_model.specs.Shapes.{IsTask}
 use Rattle.world_model.specs.Worlds.{WorldState}
 use Rattle.world_ends.specs.declared.figures.Figures.{Figures}
 use Rattle.world_ends.specs.Endings.{EndsIn}
 use Rattle.world_ends.specs.Readings.{EndsWithFigures}
 use Rattle.world_ends.specs.declared.reading.EndingWithFigures.{EndingWithFigures}
-use Rattle.hda_run.specs.Alone.{IsFoundAlone}
-use Rattle.hda_run.specs.Jobs.{JobModel}
+use Rattle.hda_run.specs.Alone.{IsFoundAlone, IsRunAlone}
+use Rattle.hda_run.specs.Jobs.{JobModel, task_in}
 use Rattle.hda_run.specs.WholeRuns.{EndsWholeRun}
 use Rattle.hda_run.specs.Worlds.{job_of}
 use Rattle.thread_joins.specs.Threads.{IsJoined, IsFoundByThreads}
@@ -45,6 +50,24 @@ module _ {S : Type 0} (owner_of : S → ℕ → BoardModel → ℕ) where
   abbrev pub SolvedRunsEnd : Type 0
   SolvedRunsEnd = (p : JobModel) (owners : S) (n : ℕ) (it : Outcome) → IsSolved owner_of p owners n it → HasItsRows it → IsFoundByWorkers EndsIn owner_of p owners n (without_rows it)
 
+  -- What is solved answers the problem, where each board's owner is one of the workers, and the problem's sums are never above the cost of a
+  -- plan. So does what is found without rows.
+  pub record SolvedRunsAnswer : Type 0 where
+    pub rows :
+        (p : JobModel) (owners : S) (n : ℕ) (it : Outcome)
+        → AreWorkers owner_of
+        → IsTask (task_in p)
+        → IsLowerBound p.rule (task_in p).sum p.goal
+        → IsSolved owner_of p owners n it
+        → Answers (task_in p) it
+    pub ends :
+        (p : JobModel) (owners : S) (n : ℕ) (it : Ending)
+        → AreWorkers owner_of
+        → IsTask (task_in p)
+        → IsLowerBound p.rule (task_in p).sum p.goal
+        → IsFoundByWorkers EndsIn owner_of p owners n it
+        → EndAnswers (task_in p) it
+
   -- the count of expansions that n workers answer is no more than the problem's limit
   abbrev pub FiguresAreWithinTheLimit : Type 0
   FiguresAreWithinTheLimit = (p : JobModel) (owners : S) (n : ℕ) (it : EndingWithFigures) → IsFoundByWorkers EndsWithFigures owner_of p owners n it → it.figures.expanded ≤ p.limit
@@ -55,6 +78,10 @@ module _ {S : Type 0} (owner_of : S → ℕ → BoardModel → ℕ) where
       (p : JobModel) (owners : S) (n bound : ℕ) (best : Option (ℕ × Vec Move Global)) (figures : Figures)
       → IsFoundByWorkers EndsWithFigures owner_of p owners n (record { ending = ending.Bounded bound best Limit; figures = figures })
       → p.limit ≤ figures.expanded + GREATEST_GRANT * n
+
+  -- the world is that of n joined threads, at least two, and is kept; or it is that of a run by one worker alone
+  abbrev pub IsOfRunBy : JobModel → S → ℕ → WorldState → Type 0
+  IsOfRunBy p owners n w = ((2 ≤ n) × IsJoined (job_of owner_of p owners n) w × IsKept w) ⊎ IsRunAlone (job_of owner_of p owners 1) w
 
 module _ {S X : Type 0} (gives : WorldState → X → Type 0) (owner_of : S → ℕ → BoardModel → ℕ) where
   -- what is found by one worker is found by it alone
@@ -71,13 +98,14 @@ module _ {S X : Type 0} (gives : WorldState → X → Type 0) (owner_of : S → 
       → ((w : WorldState) × IsJoined (job_of owner_of p owners n) w × IsKept w × gives w it)
       ⊎ (IsFoundAlone gives owner_of p owners it × ((w : WorldState) × IsJoined (job_of owner_of p owners n) w × (¬ IsKept w)))
 
-  -- the world that gives what is found has expanded no more boards than the problem's limit
+  -- what is found is given by such a world, which has expanded no more boards than the problem's limit
   abbrev pub LimitsAreKept : Type 0
-  LimitsAreKept = (p : JobModel) (owners : S) (n : ℕ) (it : X) → IsFoundByWorkers gives owner_of p owners n it → (w : WorldState) × gives w it × (expansion_count w ≤ p.limit)
+  LimitsAreKept = (p : JobModel) (owners : S) (n : ℕ) (it : X) → IsFoundByWorkers gives owner_of p owners n it → (w : WorldState) × IsOfRunBy owner_of p owners n w × gives w it × (expansion_count w ≤ p.limit)
 
-  -- the world that gives what is found by threads has as many workers as were asked for, and each board has the owner there that the owners name
+  -- What is found by threads is given by a kept world of the joined threads. It has as many workers as were asked for, and each board has the
+  -- owner there that the owners name.
   abbrev pub ThreadsAreAsAsked : Type 0
   ThreadsAreAsAsked =
       (p : JobModel) (owners : S) (n : ℕ) (it : X)
       → IsFoundByThreads gives owner_of p owners n (Some it)
-      → (w : WorldState) × gives w it × (length w.workers ≡ n) × ((b : BoardModel) → w.owner b ≡ owner_of owners n b)
+      → (w : WorldState) × IsJoined (job_of owner_of p owners n) w × IsKept w × gives w it × (length w.workers ≡ n) × ((b : BoardModel) → w.owner b ≡ owner_of owners n b)

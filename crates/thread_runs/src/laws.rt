@@ -4,6 +4,7 @@ ghost use Rattle.owners.specs.Owners.{AreWorkers};
 ghost use Rattle.thread_runs.specs.Laws.{OneIsAlone, SeveralAreJoined, SolvedRunsEnd};
 ghost use Rattle.thread_runs.specs.Laws.{LimitsAreKept, ThreadsAreAsAsked, WholeRunsSayWhy};
 ghost use Rattle.thread_runs.specs.Laws.{FiguresAreWithinTheLimit, FiguresSpendTheLimit};
+ghost use Rattle.thread_runs.specs.Laws.{SolvedRunsAnswer};
 
 use owners::Spread;
 use world_ends::Reading;
@@ -32,7 +33,7 @@ pub fn solved_runs_end<S: Spread>()
     ensures { SolvedRunsEnd S.owner_of }
 {}
 
-/// What is found is found within the limit.
+/// What is found is found within the limit: by the joined threads, or by one worker alone.
 #[tactic(auto, using(crate::proofs::LawLemmas::limits_kept))]
 pub fn limits_are_kept<A: Reading, S: Spread>()
     ensures { LimitsAreKept A.gives S.owner_of }
@@ -46,8 +47,8 @@ pub fn figures_are_within_the_limit<S: Spread>()
     ensures spent { FiguresSpendTheLimit S.owner_of }
 {}
 
-/// What threads find is given by a world of as many workers as were asked for, who own boards as
-/// the owners say.
+/// What threads find is given by a kept world of theirs, of as many workers as were asked for, who
+/// own boards as the owners say.
 #[tactic(auto, using(crate::proofs::LawLemmas::as_asked))]
 pub fn threads_are_as_asked<A: Reading, S: Spread>()
     ensures { ThreadsAreAsAsked A.gives S.owner_of }
@@ -57,4 +58,10 @@ pub fn threads_are_as_asked<A: Reading, S: Spread>()
 #[tactic(auto, using(crate::proofs::LawLemmas::runs_say_why))]
 pub fn whole_runs_say_why()
     ensures { WholeRunsSayWhy }
+{}
+
+/// What any number of workers answer is true of the problem, with rows and without them.
+#[tactic(auto, using(crate::proofs::LawLemmas::solved_answer))]
+pub fn solved_runs_answer<S: Spread>()
+    ensures { SolvedRunsAnswer S.owner_of }
 {}
