@@ -38,9 +38,9 @@ number_rule name least most given = parsed_rule (option_rule name) (value.Unsign
 abbrev pub choice_rule : Text → Choices → Text → Rule
 choice_rule name choices given = parsed_rule (option_rule name) (value.Names choices) given
 
--- an option of a number up to 2^64 - 1, which may be left out
-abbrev pub count_rule : Text → Rule
-count_rule name = record (option_rule name) { parser = Some (value.Unsigned 0 18446744073709551615) }
+-- an option of a number up to some other, which may be left out
+abbrev pub count_rule : Text → ℕ → Rule
+count_rule name most = record (option_rule name) { parser = Some (value.Unsigned 0 most) }
 
 -- an option without a value
 abbrev pub flag_rule : Text → Rule
@@ -70,11 +70,11 @@ solve_app spreads = with_rule (with_rule (with_rule (puzzle_app spreads (codes "
 abbrev pub show_app : App
 show_app = with_rule (with_rule (with_rule (new_app (codes "show")) (number_rule (codes "width") 20 1000 (codes "80"))) (flag_rule (codes "svg"))) (number_rule (codes "seconds") 1 60 (codes "1"))
 
--- the subcommand `boards`: the sides and the goal, and which boards are listed
+-- the subcommand `boards`: the sides and the goal, and which boards are listed, by walks of at most a million moves
 abbrev pub boards_app : App
 boards_app =
-    let counts = with_rule (with_rule (sided_app (codes "boards")) (option_rule (codes "goal"))) (count_rule (codes "count")) in
-    with_rule (with_rule (with_rule counts (number_rule (codes "seed") 0 18446744073709551615 (codes "0"))) (count_rule (codes "moves"))) (flag_rule (codes "all"))
+    let counts = with_rule (with_rule (sided_app (codes "boards")) (option_rule (codes "goal"))) (count_rule (codes "count") 18446744073709551615) in
+    with_rule (with_rule (with_rule counts (number_rule (codes "seed") 0 18446744073709551615 (codes "0"))) (count_rule (codes "moves") 1000000)) (flag_rule (codes "all"))
 
 -- the program without its subcommands: it has a version, one subcommand must be there, and `help` is none
 abbrev pub top_app : App

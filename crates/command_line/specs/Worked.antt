@@ -16,7 +16,7 @@ use Rattle.board.specs.Weights.{unit_rule}
 use Rattle.batch_runs.specs.declared.setup.SpreadKind.TheVariants.{Abstract}
 use Rattle.drawings.specs.declared.drawing.Style.TheVariants as style
 
--- a side of 6, 17 workers, 19 columns and x boards are no values of these options
+-- a side of 6, 17 workers, 19 columns, x boards and a walk of a million moves and one are no values of these options
 abbrev pub NumbersAreWithin : Type 0
 NumbersAreWithin =
     (spreads : Choices)
@@ -24,6 +24,8 @@ NumbersAreWithin =
     × (fault_of (program_app spreads) (codes "replay" ∷ codes "--rows" ∷ codes "3" ∷ codes "--workers=17" ∷ codes "--cols" ∷ codes "3" ∷ []) ≡ ValueValidation ∷ [])
     × (fault_of (program_app spreads) (codes "show" ∷ codes "--width" ∷ codes "19" ∷ []) ≡ ValueValidation ∷ [])
     × (fault_of (program_app spreads) (codes "boards" ∷ codes "--rows" ∷ codes "3" ∷ codes "--cols" ∷ codes "3" ∷ codes "--count" ∷ codes "x" ∷ []) ≡ ValueValidation ∷ [])
+    × (fault_of (program_app spreads) (codes "boards" ∷ codes "--rows" ∷ codes "3" ∷ codes "--cols" ∷ codes "3" ∷ codes "--moves=1000001" ∷ []) ≡ ValueValidation ∷ [])
+    × (fault_of (program_app spreads) (codes "boards" ∷ codes "--rows" ∷ codes "3" ∷ codes "--cols" ∷ codes "3" ∷ codes "--moves=1000000" ∷ []) ≡ [])
 
 -- an option that is given twice is a fault, and so is one of another subcommand
 abbrev pub OptionsStandOnce : Type 0

@@ -14,6 +14,9 @@ use clap::builder::ValueParser;
 use clap::{Arg, ArgAction, Command, Error};
 use std::alloc::Global;
 
+// The most moves of a walk to a board, many times more than any board is away from a goal.
+const MOST_MOVES: u64 = 1_000_000;
+
 /// `tilesolve` with its subcommands `solve`, `check`, `show`, `upgrade`, `replay` and `boards`.
 /// The error is that memory was refused.
 pub(crate) fn program<'a>(alloc: Global, spreads: &'a [&'a str]) -> Result<Command<'a>, Error>
@@ -127,13 +130,13 @@ fn listing<'a>(alloc: Global) -> Result<Command<'a>, Error>
 {
     let command = sided(alloc, "boards")?
         .arg(option(alloc, "goal", "TILES", help::GOAL))?
-        .arg(count(alloc, "count", help::COUNT))?
+        .arg(count(alloc, "count", u64::MAX, help::COUNT))?
         .arg(parsed(
             option(alloc, "seed", "N", help::SEED),
             ValueParser::Unsigned(0, u64::MAX),
             "0",
         ))?
-        .arg(count(alloc, "moves", help::MOVES))?
+        .arg(count(alloc, "moves", MOST_MOVES, help::MOVES))?
         .arg(flag(alloc, "all", help::ALL))?;
     Ok(with_help(command, help::BOARDS, help::BOARDS_LONG, help::BOARDS_AFTER))
 }
@@ -224,12 +227,12 @@ fn side<'a>(alloc: Global, name: &'a str, help: &'a str) -> Arg<'a>
         .value_parser(ValueParser::unsigned(2, 5))
 }
 
-// An option of a number of 64 bits, which may be left out.
-fn count<'a>(alloc: Global, name: &'a str, help: &'a str) -> Arg<'a>
-    ensures rule { rule_of result ≡ count_rule name.entry.now }
+// An option of a number up to another, which may be left out.
+fn count<'a>(alloc: Global, name: &'a str, most: u64, help: &'a str) -> Arg<'a>
+    ensures rule { rule_of result ≡ count_rule name.entry.now most }
     ensures local { result.global ≡ false }
 {
-    option(alloc, name, "N", help).value_parser(ValueParser::unsigned(0, u64::MAX))
+    option(alloc, name, "N", help).value_parser(ValueParser::unsigned(0, most))
 }
 
 // An option of any text, with the one that it has where it is left out.

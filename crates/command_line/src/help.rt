@@ -14,7 +14,8 @@ pub(crate) const PROGRAM: &str =
 pub(crate) const PROGRAM_LONG: &str = "\
 Solve sliding-tile puzzles of 2 by 2 to 5 by 5 cells optimally, and check certificates of the
 answers. Boards are read from standard input, and answers go to standard output. A board is
-one line: an id, then the tile on each cell, row by row, with 0 for the blank.";
+one line: an id, then the tile on each cell, row by row, with 0 for the blank. Blank lines and
+lines that begin with # are skipped.";
 
 /// Examples of the program, its statuses, and where its formats are described.
 pub(crate) const PROGRAM_AFTER: &str = "\
@@ -30,7 +31,7 @@ Without arguments: tilesolve solve --rows 3 --cols 3
 Exit status:
   0  every line optimal or unsolvable, a certificate accepted, shown or upgraded, or boards listed
   1  some line is bounded or refused, or a replay line is not a step (B4)
-  2  invalid arguments, including the values of --goal, --cost and --groups
+  2  invalid arguments, or a fault of --goal (E2 to E4), --cost (E13, E14) or --groups (E5 to E10)
   3  standard input can't be read (B1, F6) or standard output can't be written (B2, F8)
   4  out of memory (memory, B3, F7)
   5  the certificate is refused (F1 to F5, C1 to C7)
@@ -59,7 +60,7 @@ Examples:
 Exit status:
   0  every line is optimal or unsolvable
   1  some line is bounded or refused
-  2  invalid arguments, including the values of --goal, --cost and --groups
+  2  invalid arguments, or a fault of --goal (E2 to E4), --cost (E13, E14) or --groups (E5 to E10)
   3  standard input can't be read (B1) or standard output can't be written (B2, F8)
   4  out of memory for the tables (memory) or for a report (B3)
 
@@ -70,7 +71,7 @@ Codes of a refused line and of --goal:
   E12  the line is longer than 1024 bytes or not UTF-8
   V3   out of memory before the search starts
 Codes of --cost:
-  E13  wrong number of weights
+  E13  not unit, face or one weight for each tile
   E14  a weight is not a number from 1 to 255
 Codes of --groups:
   E5   empty group
@@ -174,7 +175,7 @@ Examples:
 Exit status:
   0  the report is optimal or unsolvable, and every line is a step
   1  the report is bounded or refused, or some line is not a step (B4)
-  2  invalid arguments, including the values of --goal, --cost and --groups
+  2  invalid arguments, or a fault of --goal (E2 to E4), --cost (E13, E14) or --groups (E5 to E10)
   3  standard input can't be read (B1) or standard output can't be written (B2)
   4  out of memory for the tables (memory) or for a report (B3)
 
@@ -247,7 +248,9 @@ pub(crate) const REPLAYED_LIMIT: &str =
     "Maximum number of boards that the workers expand in all, 0 or more";
 
 /// The option `--cert`.
-pub(crate) const CERT: &str = "Write the certificate of the first board instead of reports";
+pub(crate) const CERT: &str = "\
+Solve the first board alone: write a certificate of its plan or bound, or its report if it has
+neither";
 
 /// The option `--width`.
 pub(crate) const WIDTH: &str = "Columns of the text, from 20 to 1000";
@@ -266,7 +269,8 @@ pub(crate) const SEED: &str = "Seed of the draws: the same seed gives the same b
 
 /// The option `--moves`.
 pub(crate) const MOVES: &str = "\
-Walk this many moves from the goal to each board; no move takes back the one before it";
+Walk this many moves from the goal to each board, 0 to 1000000; no move takes back the one before
+it";
 
 /// The option `--all`.
 pub(crate) const ALL: &str = "\
@@ -276,5 +280,6 @@ List all boards with a plan to the goal, in rising order of their tiles (at most
 pub(crate) const PROGRESS: &str = "Print how far the search is on standard error, once a second";
 
 /// The option `--stats`.
-pub(crate) const STATS: &str =
-    "Print figures of the search for each answered board on standard error, as one line of JSON";
+pub(crate) const STATS: &str = "\
+Print figures of the search for each answered board on standard error, as one line of JSON; with
+--cert there are none";

@@ -4,7 +4,8 @@
 ghost use Rattle.command_line.specs.Worked.{NumbersAreWithin, OptionsStandOnce, TextsAreAskedFor};
 ghost use Rattle.command_line.specs.Worked.{WordsAskOneThing, WordsAreNotRefused};
 
-/// A side of 6, 17 workers, 19 columns and x boards are no values of these options.
+/// A side of 6, 17 workers, 19 columns, x boards and a walk of a million moves and one are no values
+/// of these options; a walk of a million moves is one.
 #[tactic(auto, using(clap::proofs::OnLiterals::clap_on_literals), unfolding(clap::proofs::OnLiterals::clap_on_literals))]
 pub fn numbers_are_within()
     ensures { NumbersAreWithin }
