@@ -2,9 +2,12 @@
 use Rattle.std.proofs.Common.{◌≡◌, ◌∙◌, Bool, true, false, List, [], ◌∷◌, Option, None, Some, inl, inr, sym, ap, subst, map, arith, codes, ℕ, ◌≢◌, Result, Ok, Err, refl, ◌⊎◌, ◌<◌, append-nil, string_bytes, ◌++◌}
 use Rattle.std.specs.Io.KnownBytes.{Appends, Keeps}
 use Rattle.std.proofs.lemmas.Bool.{true≢false}
-use Rattle.batch_runs.proofs.BatchLemmas.{run_true, outputs_true, beginnings_true}
-use Rattle.setup_runs.specs.Solving.{rules_of, certifying_rules_of}
-use Rattle.batch_cli.specs.Laws.{MessagesAreBegun, OutputsTellTheTruth, SolvedOutputsTellTheTruth, CertificatesAnswerTheFirst, AcceptedInputsAreTrue, DefaultSetupsAreKorfs, RunsWithoutArgumentsAreTrue, BegunOutputsTellTheTruth, ListsAreWritten, TextsAreWritten, RefusedInputsAreFaulty, DrawnInputsAreCertificates, UndrawnInputsAreMistaken, UpgradesAreSpelled, IsReplayOf, ReplaysAreAnswered}
+use Rattle.batch_runs.proofs.BatchLemmas.{run_true, outputs_true, beginnings_true, figures_belong}
+use Rattle.batch_runs.specs.Stats.{HandsFigures}
+use Rattle.batch_runs.specs.declared.stats.Stats.{Stats}
+use Rattle.batch_runs.specs.declared.stats.Solved.{Solved}
+use Rattle.setup_runs.specs.Solving.{rules_of, certifying_rules_of, HasStats}
+use Rattle.batch_cli.specs.Laws.{FiguresAreTaken, MessagesAreBegun, OutputsTellTheTruth, SolvedOutputsTellTheTruth, CertificatesAnswerTheFirst, AcceptedInputsAreTrue, DefaultSetupsAreKorfs, RunsWithoutArgumentsAreTrue, BegunOutputsTellTheTruth, ListsAreWritten, TextsAreWritten, RefusedInputsAreFaulty, DrawnInputsAreCertificates, UndrawnInputsAreMistaken, UpgradesAreSpelled, IsReplayOf, ReplaysAreAnswered}
 use Rattle.std.specs.Prelude.{IfSome, IsSome}
 use Rattle.std.proofs.KnownBytes.{Appends-kept, Keeps-trans}
 use Rattle.clap.specs.Words.{Text, Row, Kinds, first_of}
@@ -69,7 +72,7 @@ use Rattle.batch_cli.specs.declared.endings.Ending.TheVariants.{NoTexts, Refused
 use Rattle.batch_cli.specs.declared.commands.Command.{Command}
 use Rattle.batch_cli.specs.declared.commands.Command.TheVariants as command
 use Rattle.batch_cli.specs.Endings.{status_of, HasNotBegun, Tells as ReportsEnding}
-use Rattle.batch_cli.specs.Programs.{ending_of, after_flush, FlushesBehind, IsUnused, SolvesLines, CertifiesOne, Judges, Draws, Rewrites, TakesSteps, ListsClass, ShowsText, EndsRun, EndsRequest, EndsBy, Runs}
+use Rattle.batch_cli.specs.Programs.{ending_of, after_flush, FlushesBehind, IsUnused, HandsLines, HandsRun, HandsAsked, SolvesAsked, SolvesLines, CertifiesOne, Judges, Draws, Rewrites, TakesSteps, ListsClass, ShowsText, EndsRun, EndsRequest, EndsBy, Runs}
 use Rattle.batch_cli.specs.declared.faults.BatchFault.TheVariants.{Write}
 use Rattle.batch_cli.specs.Faults.{of_lines, of_certify, of_check, of_upgrade}
 use Rattle.batch_cli.specs.Headline.{IsTrue, IsTrueOf, IsTrueBy, RunsProgram, JudgesTruly, StatesTruth, DrawsTruly, UpgradesTruly, WritesReplay}
@@ -340,6 +343,47 @@ begun_command (command.Show text) source sink ending (unread, (result, run, is))
 
 pub begun_ended : (command : Command) (source : Change SourceState) (sink : Change SinkState) (ending : Ending) → EndsRun (Runs command source) sink ending → ¬ HasNotBegun ending
 begun_ended command source sink ending ended = λ idle. begun_flushed ended.ran ended.flush.0 (begun_command command source (from_to sink.before ended.between) ended.ran ended.run) (subst HasNotBegun ended.flush.2 idle)
+
+-- ---- figures that were handed over stay so behind a flush
+
+HandsFigures-kept : (rules : Rules) (handed : List ℕ → BoardModel → Solved → Type 0) (input : Option (List ℕ)) (a b c : SinkState) → HandsFigures rules handed input (from_to a b) → PutsNone (from_to b c) → HandsFigures rules handed input (from_to a c)
+HandsFigures-kept rules handed input a b c hands kept = record {
+  lines = hands.lines;
+  answers = hands.answers;
+  few = hands.few;
+  first = hands.first;
+  answered = hands.answered;
+  begun = record { sent = hands.begun.sent; unsent = hands.begun.unsent; parts = hands.begun.parts; put = Appends-kept a.contents b.contents c.contents hands.begun.sent hands.begun.put kept };
+  figures = hands.figures;
+}
+
+-- what a command hands over is what its request asks for
+pub hands_asked : (taken : List ℕ → Stats → Type 0) (request : Request) (command : Command) (source : Change SourceState) (sink : Change SinkState) (between : SinkState) (ran ending : Ending) → SolvesAsked request command → HandsRun taken command source (from_to sink.before between) → FlushesBehind ran (from_to between sink.after) ending → HandsAsked taken request source sink
+hands_asked taken (Solve o) (command.Solve setup progress stats) source sink between ran ending (is, same) hands flush =
+    let kept = HandsFigures-kept (rules_of setup) (λ id b solved. HasStats setup b solved × (stats ≡ true → taken id solved.stats)) source.before.left sink.before between sink.after hands (behind_none ran (from_to between sink.after) ending flush) in
+    (setup, is, subst (λ (asked : Bool). HandsLines taken setup asked source sink) same kept)
+hands_asked taken (Solve o) (command.Certify setup progress) source sink between ran ending never hands flush = absurd never
+hands_asked taken (Solve o) command.Check source sink between ran ending never hands flush = absurd never
+hands_asked taken (Solve o) (command.Draw style) source sink between ran ending never hands flush = absurd never
+hands_asked taken (Solve o) command.Upgrade source sink between ran ending never hands flush = absurd never
+hands_asked taken (Solve o) (command.Replay setup) source sink between ran ending never hands flush = absurd never
+hands_asked taken (Solve o) (command.List l) source sink between ran ending never hands flush = absurd never
+hands_asked taken (Solve o) (command.Show text) source sink between ran ending never hands flush = absurd never
+hands_asked taken (Certify o) command source sink between ran ending solves hands flush = tt
+hands_asked taken Check command source sink between ran ending solves hands flush = tt
+hands_asked taken (Draw style) command source sink between ran ending solves hands flush = tt
+hands_asked taken Upgrade command source sink between ran ending solves hands flush = tt
+hands_asked taken (Replay o) command source sink between ran ending solves hands flush = tt
+hands_asked taken (Boards l) command source sink between ran ending solves hands flush = tt
+hands_asked taken (Help text) command source sink between ran ending solves hands flush = tt
+hands_asked taken (Version text) command source sink between ran ending solves hands flush = tt
+
+-- where the input is known and the output was empty, each report has figures that were taken with its id
+pub figures_taken : (taken : List ℕ → Stats → Type 0) → FiguresAreTaken taken
+figures_taken taken o source sink input asked known empty (setup, is, hands) =
+    let handed : List ℕ → BoardModel → Solved → Type 0 = λ id b solved. HasStats setup b solved × (o.stats ≡ true → taken id solved.stats) in
+    let belong = figures_belong (rules_of setup) handed input sink empty (subst (λ (left : Option (List ℕ)). HandsFigures (rules_of setup) handed left sink) known hands) in
+    (belong.0, belong.1, belong.2, λ k id ending reply. ((belong.3 k id ending reply).3.stats, (belong.3 k id ending reply).6.1 asked))
 
 -- ---- what the program writes is true: what was written stays behind a flush
 

@@ -20,7 +20,9 @@ use Rattle.drawings.specs.Drawings.{IsDrawing}
 use Rattle.drawings.specs.declared.drawing.Style.{Style}
 use Rattle.outcomes.specs.Endings.{without_rows}
 use Rattle.outcomes.specs.declared.outcome.Outcome.{Outcome}
-use Rattle.reports.specs.Reports.{refused_certificate_data, report_text}
+use Rattle.outcomes.specs.declared.outcome.Ending.{Ending as LineEnding}
+use Rattle.batch_runs.specs.declared.stats.Stats.{Stats}
+use Rattle.reports.specs.Reports.{refused_certificate_data, report_text, outcome_data}
 use Rattle.replay_runs.specs.Openings.{setup_jobs}
 use Rattle.replay_runs.specs.Replays.{Jobs, IsEnd, RefusesFirst}
 use Rattle.replay_runs.specs.Replies.{Reply, are_fine, replay_status_of}
@@ -29,13 +31,13 @@ use Rattle.command_line.specs.declared.requests.Listing.{Listing}
 use Rattle.command_line.specs.declared.requests.Options.{Options}
 use Rattle.command_line.specs.declared.requests.Request.TheVariants.{Solve, Certify, Check, Draw, Upgrade, Replay, Boards, Help, Version}
 use Rattle.batch_lines.specs.Lines.{lines_of}
-use Rattle.batch_runs.specs.Meanings.{AreAllDecided}
+use Rattle.batch_runs.specs.Meanings.{AreAllDecided, IsReply}
 use Rattle.batch_runs.specs.Headline.{TellsTheTruth}
 use Rattle.batch_cli.specs.declared.endings.Ending.{Ending}
 use Rattle.batch_cli.specs.Endings.{Tells, message_of}
 use Rattle.batch_cli.specs.Setups.{IsDefaultSetup, small_grid}
 use Rattle.batch_cli.specs.Headline.{IsTrue, IsTrueOf, RunsProgram}
-use Rattle.batch_cli.specs.Programs.{PrintsAsAsked}
+use Rattle.batch_cli.specs.Programs.{PrintsAsAsked, HandsAsked}
 use Rattle.batch_cli.specs.declared.commands.Command.TheVariants as command
 use Rattle.batch_runs.specs.Setups.{SetupModel}
 use Rattle.setup_runs.specs.Solving.{rules_of, certifying_rules_of}
@@ -200,3 +202,14 @@ ReplaysAreAnswered =
     → IsTrueOf (Replay o) status source sink
     → (setup : SetupModel) × (setup.goal ≡ o.goal) × (setup.rule ≡ o.costs) × (setup.limit ≡ o.limit) × (setup.workers ≡ o.workers) × (setup.spread ≡ o.spread)
     × (setup.tables.split ≡ o.groups) × (output : List ℕ) × (sink.after.contents ≡ Some output) × IsReplayOf (setup_jobs setup) source input output status
+
+-- where `solve` is asked for figures, the input is known and the output was empty, each report of an ending has figures that were taken with its id
+abbrev pub FiguresAreTaken : (List ℕ → Stats → Type 0) → Type 0
+FiguresAreTaken taken =
+    (o : Options) (source : Change SourceState) (sink : Change SinkState) (input : List ℕ)
+    → o.stats ≡ true
+    → source.before.left ≡ Some input
+    → sink.before.contents ≡ Some []
+    → HandsAsked taken (Solve o) source sink
+    → (written unwritten : List ℕ) × (sink.after.contents ≡ Some written)
+    × ((k : ℕ) (id : List ℕ) (ending : LineEnding) → IsReply (written ++ unwritten) k (outcome_data id ending) → (stats : Stats) × taken id stats)

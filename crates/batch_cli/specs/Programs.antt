@@ -1,5 +1,5 @@
 -- What the program does for arguments, and how it ends.
-use Rattle.std.specs.Prelude.{ℕ, ◌≡◌, ◌⊎◌, List, Result, Ok, Err, ⊤, Bool, false, string_bytes}
+use Rattle.std.specs.Prelude.{ℕ, ◌≡◌, ◌⊎◌, List, Result, Ok, Err, ⊤, Bool, true, false, string_bytes}
 use Rattle.byte_streams.specs.Streams.{SourceState, SinkState, Change, from_to}
 use Rattle.byte_streams.specs.Sink.{Writes, Flushes}
 use Rattle.byte_streams.specs.declared.sink.WriteFailed.{WriteFailed}
@@ -10,6 +10,8 @@ use Rattle.command_line.specs.declared.requests.Listing.{Listing}
 use Rattle.batch_runs.specs.declared.batch.Summary.{Summary}
 use Rattle.batch_runs.specs.declared.faults.LinesFault.{LinesFault}
 use Rattle.batch_runs.specs.Batches.{ReportsLines}
+use Rattle.batch_runs.specs.Stats.{HandsFigures}
+use Rattle.batch_runs.specs.declared.stats.Stats.{Stats}
 use Rattle.batch_runs.specs.Setups.{SetupModel}
 use Rattle.certificate_runs.specs.declared.faults.CertifyFault.{CertifyFault}
 use Rattle.certificate_runs.specs.declared.faults.CheckFault.{CheckFault}
@@ -21,7 +23,7 @@ use Rattle.certificate_runs.specs.Upgrading.{Upgrades}
 use Rattle.drawings.specs.declared.drawing.Style.{Style}
 use Rattle.replay_runs.specs.Replays.{Replays}
 use Rattle.replay_runs.specs.Openings.{setup_jobs}
-use Rattle.setup_runs.specs.Solving.{rules_of, certifying_rules_of}
+use Rattle.setup_runs.specs.Solving.{rules_of, certifying_rules_of, HasStats}
 use Rattle.command_line.specs.declared.faults.NoRequest.{NoRequest}
 use Rattle.command_line.specs.declared.requests.Options.{Options}
 use Rattle.command_line.specs.declared.requests.Request.{Request}
@@ -179,3 +181,29 @@ prints_stats _ = false
 -- progress and figures are printed exactly where they are asked for
 abbrev pub PrintsAsAsked : Request → Command → Type 0
 PrintsAsAsked request command = (prints_progress command ≡ asks_progress request) × (prints_stats command ≡ asks_stats request)
+
+-- ---- figures that are asked for
+
+-- Figures of each line that a run has answered were handed over with its id. Where they were asked for, they were taken so.
+abbrev pub HandsLines : (List ℕ → Stats → Type 0) → SetupModel → Bool → Change SourceState → Change SinkState → Type 0
+HandsLines taken setup stats source sink = HandsFigures (rules_of setup) (λ id b solved. HasStats setup b solved × (stats ≡ true → taken id solved.stats)) source.before.left sink
+
+-- so it is in a run of a command that solves lines
+abbrev pub HandsRun : (List ℕ → Stats → Type 0) → Command → Change SourceState → Change SinkState → Type 0
+HandsRun taken (command.Solve setup progress stats) source sink = HandsLines taken setup stats source sink
+HandsRun taken _ source sink = ⊤
+
+-- and for what arguments ask for
+abbrev pub HandsAsked : (List ℕ → Stats → Type 0) → Request → Change SourceState → Change SinkState → Type 0
+HandsAsked taken (Solve o) source sink = (setup : SetupModel) × IsSetupOf o setup × HandsLines taken setup o.stats source sink
+HandsAsked taken _ source sink = ⊤
+
+-- where lines are to be solved, the command solves them for a setup of the options, and hands figures over as they say
+abbrev pub SolvesAsked : Request → Command → Type 0
+SolvesAsked (Solve o) (command.Solve setup progress stats) = IsSetupOf o setup × (stats ≡ o.stats)
+SolvesAsked (Solve o) _ = ⊥
+SolvesAsked _ _ = ⊤
+
+-- such figures for what some arguments ask for, or nothing was read or written
+abbrev pub HandsBy : (List ℕ → Stats → Type 0) → List Text → Change SourceState → Change SinkState → Type 0 → Type 0
+HandsBy taken words source sink Untouched = Untouched ⊎ ((request : Request) × WordsAsk words request × HandsAsked taken request source sink)

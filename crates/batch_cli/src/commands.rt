@@ -3,6 +3,7 @@
 ghost use Rattle.std.specs.Prelude.{IfOk, IfErr};
 ghost use Rattle.batch_cli.specs.Setups.{IsRequestFit};
 ghost use Rattle.batch_cli.specs.Programs.{ServesRequest, CanRun, EndsWithoutMemory, PrintsAsAsked};
+ghost use Rattle.batch_cli.specs.Programs.{SolvesAsked};
 
 use crate::setups::setup_of;
 use batch_runs::Setup;
@@ -51,6 +52,7 @@ pub(crate) fn command_for(
     ensures fit { IfOk result CanRun }
     ensures lacking { IfErr result (EndsWithoutMemory request) }
     ensures printed { IfOk result (PrintsAsAsked request) }
+    ensures solved { IfOk result (SolvesAsked request) }
 {
     match request {
         Request::Solve(options) => {

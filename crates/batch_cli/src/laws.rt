@@ -7,7 +7,9 @@ ghost use Rattle.batch_cli.specs.Laws.{OptionsArePrinted, RunsWithoutArgumentsAr
 ghost use Rattle.batch_cli.specs.Laws.{BegunOutputsTellTheTruth, ListsAreWritten, TextsAreWritten};
 ghost use Rattle.batch_cli.specs.Laws.{RefusedInputsAreFaulty, DrawnInputsAreCertificates};
 ghost use Rattle.batch_cli.specs.Laws.{UndrawnInputsAreMistaken, UpgradesAreSpelled};
-ghost use Rattle.batch_cli.specs.Laws.{ReplaysAreAnswered};
+ghost use Rattle.batch_cli.specs.Laws.{ReplaysAreAnswered, FiguresAreTaken};
+
+use setup_runs::Watch;
 
 /// To a stream that has not failed since, the message is written whole.
 pub fn messages_are_whole()
@@ -28,10 +30,14 @@ pub fn outputs_tell_the_truth()
 {}
 
 /// So it is where options are given: all lines are answered, or the first board with a certificate.
-pub fn asked_outputs_tell_the_truth()
+/// Where they ask for figures, each report has figures that the watch took with its id.
+pub fn asked_outputs_tell_the_truth<W: Watch>(watch: &W)
     ensures solved { SolvedOutputsTellTheTruth }
     ensures certified { CertificatesAnswerTheFirst }
-{}
+    ensures figures { FiguresAreTaken (λ id stats. W.has_taken watch.now id stats) }
+{
+    let _ = watch;
+}
 
 /// A known input that is accepted states a cost that no plan undercuts.
 #[tactic(auto, using(crate::proofs::LawLemmas::accepted_inputs))]

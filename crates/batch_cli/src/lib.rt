@@ -10,7 +10,8 @@
 //! - `Ending` is how the program ends, with contracts for status and message; `BatchFault` is the
 //!   sum of the runs' faults.
 //! - `RunsProgram` is the contract: `EndsBy` says how it ends, `IsTrueBy` that what is written is
-//!   true, field `batch` the same for no arguments (`IsTrue`).
+//!   true, field `batch` the same for no arguments (`IsTrue`). `HandsBy` says of a watch that it
+//!   took figures for each report, where they were asked for.
 //! - Start with `specs/Headline.antt`, `specs/Programs.antt`, then `src/program.rt`,
 //!   `src/runner.rt`.
 #![tactic(auto)]

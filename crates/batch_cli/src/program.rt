@@ -4,6 +4,7 @@ ghost use Rattle.std.specs.Prelude.{◌≡◌, ◌⊎◌, map, string_bytes};
 ghost use Rattle.byte_streams.specs.Streams.{change};
 ghost use Rattle.batch_runs.specs.Batches.{HasFailed};
 ghost use Rattle.batch_cli.specs.Headline.{RunsProgram};
+ghost use Rattle.batch_cli.specs.Programs.{HandsBy};
 
 use crate::progress::Unkept;
 use crate::runner::Runner;
@@ -42,7 +43,7 @@ pub fn run_program<R: Threads + Wait + Sync, S: Source, K: Sink, E: Sink>(
 
 /// Runs the program as `run_program` does, under a watch. The watch is passed after each step of
 /// the search where the arguments ask for progress. It takes the figures of lines where they ask
-/// for these.
+/// for these, as the clause `figures` says.
 pub fn run_with_progress<R: Threads + Wait + Sync, S: Source, K: Sink, E: Sink, W: Watch + Sync>(
     rt: &R,
     alloc: Global,
@@ -52,9 +53,13 @@ pub fn run_with_progress<R: Threads + Wait + Sync, S: Source, K: Sink, E: Sink, 
     errors: &mut E,
     watch: &W,
 ) -> u8
-    ensures { RunsProgram (map string_bytes words.now) (change S.state source.old source.new)
+    ensures run { RunsProgram (map string_bytes words.now) (change S.state source.old source.new)
         (change K.state sink.old sink.new) (change E.state errors.old errors.new) result
         (K.is_flushed sink.new ⊎ HasFailed (K.state sink.new))
+        ((source.new ≡ source.old) × (sink.new ≡ sink.old)) }
+    ensures figures { HandsBy (λ id stats. W.has_taken watch.now id stats)
+        (map string_bytes words.now) (change S.state source.old source.new)
+        (change K.state sink.old sink.new)
         ((source.new ≡ source.old) × (sink.new ≡ sink.old)) }
 {
     let runner = Runner { rt, alloc, watch };

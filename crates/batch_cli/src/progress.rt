@@ -1,5 +1,7 @@
 //! Progress and figures, where the arguments ask for them.
 
+ghost use Rattle.std.specs.Prelude.{◌≡◌, true};
+
 use batch_runs::Stats;
 use hda_run::{Gate, Kind, World};
 use owners::Spread;
@@ -45,6 +47,8 @@ impl<W: Watch> Gate for WhereAsked<'_, W> {
 }
 
 impl<W: Watch> Watch for WhereAsked<'_, W> {
+    ghost has_taken = { λ it id stats. it.stats ≡ true → W.has_taken it.watch.now id stats };
+
     fn microseconds(&self) -> u64 {
         if self.stats {
             return self.watch.microseconds();

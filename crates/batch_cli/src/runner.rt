@@ -10,6 +10,7 @@ ghost use Rattle.batch_cli.specs.Programs.{SolvesLines, CertifiesOne, Judges, Dr
 ghost use Rattle.batch_cli.specs.Programs.{TakesSteps, ListsClass, ShowsText, FlushesBehind};
 ghost use Rattle.batch_cli.specs.Programs.{EndsBy, CanRun, Runs};
 ghost use Rattle.batch_cli.specs.Programs.{after_flush, prints_progress, prints_stats};
+ghost use Rattle.batch_cli.specs.Programs.{HandsLines, HandsRun, HandsBy};
 
 use crate::commands::{Command, command_for};
 use crate::endings::Ending;
@@ -49,6 +50,10 @@ impl<'a, R: Threads + Wait + Sync, W: Watch + Sync> Runner<'a, R, W> {
         ensures begun { ((K.is_flushed sink.new ⊎ HasFailed (K.state sink.new))
             × (¬ HasNotBegun result))
             ⊎ (HasNotBegun result × ((source.new ≡ source.old) × (sink.new ≡ sink.old))) }
+        ensures figures { HandsBy (λ id stats. W.has_taken self.now.watch.now id stats)
+            (map string_bytes words.now) (change S.state source.old source.new)
+            (change K.state sink.old sink.new)
+            ((source.new ≡ source.old) × (sink.new ≡ sink.old)) }
     {
         let request = match read_words(self.alloc, words) {
             Ok(request) => request,
@@ -65,8 +70,11 @@ impl<'a, R: Threads + Wait + Sync, W: Watch + Sync> Runner<'a, R, W> {
     // Runs a command; no flush follows.
     fn run<S: Source, K: Sink>(&self, command: &Command, source: &mut S, sink: &mut K) -> Ending
         requires { CanRun command.now }
-        ensures { Runs command.now (change S.state source.old source.new)
+        ensures runs { Runs command.now (change S.state source.old source.new)
             (change K.state sink.old sink.new) result }
+        ensures figures { HandsRun (λ id stats. W.has_taken self.now.watch.now id stats)
+            command.now (change S.state source.old source.new)
+            (change K.state sink.old sink.new) }
     {
         match command {
             Command::Solve { setup, .. } => {
@@ -86,6 +94,7 @@ impl<'a, R: Threads + Wait + Sync, W: Watch + Sync> Runner<'a, R, W> {
 
     // The watch of a setup's runs, where a command prints progress or figures.
     fn asked(&self, setup: &Setup, command: &Command) -> WhereAsked<'a, W>
+        ensures watch { result.watch ≡ self.now.watch }
         ensures alone { IsTrue result.is_alone ↔ (setup.now.workers ≡ 1) }
         ensures progress { result.progress ≡ prints_progress command.now }
         ensures stats { result.stats ≡ prints_stats command.now }
@@ -114,8 +123,11 @@ impl<'a, R: Threads + Wait + Sync, W: Watch + Sync> Runner<'a, R, W> {
         source: &mut S,
         sink: &mut K,
     ) -> Ending
-        ensures { SolvesLines (change S.state source.old source.new) setup.now
+        ensures solved { SolvesLines (change S.state source.old source.new) setup.now
             (change K.state sink.old sink.new) result }
+        ensures figures { HandsLines (λ id stats. W.has_taken watch.now.watch.now id stats)
+            setup.now watch.now.stats (change S.state source.old source.new)
+            (change K.state sink.old sink.new) }
     {
         match run_watched(self.rt, self.alloc, source, sink, setup, watch) {
             Ok(counts) => Ending::Ran(counts),
