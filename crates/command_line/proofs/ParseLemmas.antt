@@ -10,7 +10,7 @@ use Rattle.std.specs.Str.Parse.{IsNumeral, digits_value, without_leading_plus}
 use Rattle.std.specs.Result.{OkIff}
 use Rattle.std.specs.Box.{box_value}
 use Rattle.std.proofs.lemmas.Result.{IfOk-weaker, IfErr-weaker}
-use Rattle.clap.specs.Words.{Text, Row, first_of, is_simple, is_simple_and_free, App, Rule, AddsArg, AddsSubcommand, app_of, rule_of, with_rule, with_subcommand, FailsBy, HasKind, HasMatchesOf, fault_of, kind_of, read_as as value_read, subcommand_of, subcommand_rows_of, ReadsOne, one_text, first_value, rows_of, subcommand_name_of, Kinds}
+use Rattle.clap.specs.Words.{Text, Row, first_of, one_of, is_simple, is_simple_and_free, App, Rule, AddsArg, AddsSubcommand, app_of, rule_of, with_rule, with_subcommand, FailsBy, HasKind, HasMatchesOf, fault_of, kind_of, read_as as value_read, subcommand_of, subcommand_rows_of, ReadsOne, one_text, first_value, rows_of, subcommand_name_of, Kinds}
 use Rattle.clap.proofs.OnLiterals.{clap_on_literals}
 use Rattle.clap.specs.declared.builder.arg.Arg.{Arg}
 use Rattle.clap.specs.declared.builder.command.Command.{Command}
@@ -25,7 +25,7 @@ use Rattle.clap.specs.declared.parser.matches.ArgMatches.TheViews.{out-ArgMatche
 use Rattle.clap.specs.declared.parser.matches.SubCommand.{SubCommand}
 use Rattle.clap.specs.declared.builder.value_parser.ValueParser.{ValueParser}
 use Rattle.command_line.specs.Commands.{Choices, program_app, parsed_rule, AreChoices, IsProgram, IsReadAs}
-use Rattle.command_line.specs.Requests.{HasNumber, HasCount, HasWorkers, HaveValues, LackValues, StyleFails, IsOther, IsLeftOut, IsStyle, HasShape, spread_text, IsGoalSaid, IsGoalFault, AreCostsSaid, IsCostsFault, AreGroupsSaid, IsGroupsFault, AreOptions, OptionsFail, RunFails, AsksRun, AsksText, TextFails, WordsAsk, WordsFail}
+use Rattle.command_line.specs.Requests.{HasNumber, HasCount, HasWorkers, HaveValues, LackValues, IsLeftOut, IsStyle, HasShape, spread_text, IsGoalSaid, IsGoalFault, AreCostsSaid, IsCostsFault, AreGroupsSaid, IsGroupsFault, AreOptions, OptionsFail, RunFails, AsksRun, AsksText, TextFails, WordsAsk, WordsFail}
 use Rattle.command_line.specs.declared.faults.NoRequest.TheVariants.{Usage, Goal, Costs, Groups, NoListing, Memory, NoMatch}
 use Rattle.command_line.specs.declared.requests.Request.{Request}
 use Rattle.command_line.specs.declared.requests.Request.TheVariants.{Solve, Certify, Check, Draw, Upgrade, Replay, Boards, Help, Version}
@@ -35,7 +35,7 @@ use Rattle.drawings.specs.declared.drawing.Style.{Style}
 use Rattle.drawings.specs.declared.drawing.Style.TheVariants as style
 use Rattle.command_line.specs.declared.faults.NoRequest.{NoRequest}
 use Rattle.board.specs.Shapes.{ShapeModel, IsShape}
-use Rattle.board.specs.Boards.{BoardModel, goal_of}
+use Rattle.board.specs.Boards.{BoardModel}
 use Rattle.board.specs.Weights.{WeightsModel, unit_rule}
 use Rattle.board.specs.declared.faults.TilesFault.{TilesFault}
 use Rattle.board.specs.declared.faults.WeightsFault.{WeightsFault}
@@ -48,7 +48,7 @@ use Rattle.option_texts.proofs.TextLemmas.{one_goal, no_goal_fault}
 use Rattle.option_texts.proofs.CostLemmas.{one_rule, no_costs_fault}
 use Rattle.option_texts.proofs.LawLemmas.{no_groups_fault}
 use Rattle.command_line.specs.declared.requests.Options.{Options}
-use Rattle.command_line.specs.Laws.{IsWant, SearchesAreSaid, OptionsAreDetermined, ListingsAreDetermined, StylesAreDetermined, CertIsSaid, TextsAreOfFaults, UsageIsOfFaults, command_of, RequestsAreOfTheirCommands, RunsAreSaid, RunsWithoutBoardsAreAsked, RefusalsAreOfOptions, ListingsAreJudgedBeforeGoals, ChoicesAreThree}
+use Rattle.command_line.specs.Laws.{IsWant, SearchesAreSaid, OptionsAreDetermined, ListingsAreDetermined, StylesAreDetermined, CertIsSaid, TextsAreOfFaults, UsageIsOfFaults, command_of, RequestsAreOfTheirCommands, RunsAreSaid, RunsWithoutBoardsAreAsked, RefusalsAreOfOptions, ListingsAreJudgedBeforeGoals, ChoicesAreThree, RunsHaveNoFault, OthersAreNoMatch, NumbersAreDecimal}
 use Rattle.command_line.specs.Worked.{IsOutOfMemory, IsPlainSearch, WordsAskOneThing, WordsAreNotRefused}
 use Rattle.command_line.specs.Requests.{IsChoice, SaysListing, IsListFault, ListingFails}
 use Rattle.command_line.specs.declared.requests.Listing.{Listing}
@@ -532,6 +532,39 @@ always_asked rows refusal = ((λ fails. fails.0 refl), (λ fails. fails.1 refl),
 
 pub refusal_of_options : RefusalsAreOfOptions
 refusal_of_options name rows refusal fails = (fails.3, fails.4, fails.5)
+
+pub run_no_fault : RunsHaveNoFault
+run_no_fault None request refusal sound asks fails = absurd asks
+run_no_fault (Some p) (Solve o) refusal sound asks fails = options_no_fault p.1 o refusal sound asks.1 (fails.4 asks.0)
+run_no_fault (Some p) (Certify o) refusal sound asks fails = options_no_fault p.1 o refusal sound asks.1 (fails.4 asks.0)
+run_no_fault (Some p) Check refusal sound asks fails = absurd (fails.0 asks)
+run_no_fault (Some p) (Draw look) refusal sound asks fails = absurd ((fails.2 asks.0).1 look asks.1)
+run_no_fault (Some p) Upgrade refusal sound asks fails = absurd (fails.1 asks)
+run_no_fault (Some p) (Replay o) refusal sound asks fails = options_no_fault p.1 o refusal sound asks.1 (fails.5 asks.0)
+run_no_fault (Some p) (Boards l) refusal sound asks fails = listing_no_fault p.1 l refusal asks.1 (fails.3 asks.0)
+run_no_fault (Some p) (Help text) refusal sound asks fails = absurd asks
+run_no_fault (Some p) (Version text) refusal sound asks fails = absurd asks
+
+pub others_no_match : OthersAreNoMatch
+others_no_match name rows refusal = (λ none. none, λ solve replay show boards fails. fails.6 (solve, replay, show, boards))
+
+-- ---- what texts say as numbers
+
+said_text : (rows : List Row) (id text : Text) (n : ℕ) → (has : HasNumber rows id n) → one_of id rows ≡ Some text → has.text ≡ text
+said_text rows id text n has is = some_text has.text text (sym has.given ∙ is)
+
+no_letters : IsNumeral 10 (codes "1x") → ⊥
+no_letters (some, (one, (letter, rest))) = omega (arith, letter)
+
+no_digits : IsNumeral 10 [] → ⊥
+no_digits (some, rest) = omega (arith, some)
+
+pub numbers_decimal : NumbersAreDecimal
+numbers_decimal rows id n has = (
+  λ is. no_letters (subst (λ (t : Text). IsNumeral 10 (without_leading_plus t)) (said_text rows id (codes "1x") n has is) has.numeral),
+  λ is. no_digits (subst (λ (t : Text). IsNumeral 10 (without_leading_plus t)) (said_text rows id [] n has is) has.numeral),
+  λ is. has.value ∙ ap (λ (t : Text). digits_value 10 (without_leading_plus t)) (said_text rows id (codes "+07") n has is),
+)
 
 pub listing_before_goal : ListingsAreJudgedBeforeGoals
 listing_before_goal rows NotAlone later fails (grid, choice, shape, chosen, small, first) = alone rows choice chosen fails

@@ -1,7 +1,7 @@
 -- The laws of what options say. Each is the contract of a function that does nothing.
-use Rattle.std.specs.Prelude.{◌≡◌, ◌≢◌, ◌≤◌, ◌⊎◌, ◌↔◌, ⊤, List, [], ◌∷◌, Option, None, Some, IsTrue, String, false, codes, map}
+use Rattle.std.specs.Prelude.{ℕ, ◌≡◌, ◌≢◌, ◌≤◌, ◌⊎◌, ◌↔◌, ⊤, List, [], ◌∷◌, Option, None, Some, IsTrue, String, false, codes, map}
 use Rattle.std.specs.declared.alloc.Global.{Global}
-use Rattle.clap.specs.Words.{Text, Row, Kinds, IsAmong, first_of, kind_of}
+use Rattle.clap.specs.Words.{Text, Row, Kinds, IsAmong, first_of, one_of, kind_of}
 use Rattle.clap.specs.declared.error.kind.ErrorKind.{ErrorKind}
 use Rattle.clap.specs.declared.error.kind.ErrorKind.TheVariants.{DisplayHelp, DisplayVersion, OutOfMemory}
 use Rattle.clap.specs.declared.error.Error.{Error}
@@ -161,6 +161,31 @@ RefusalsAreOfOptions =
     (name : Text) (rows : List Row) (refusal : NoRequest)
     → RunFails (Some (name, rows)) refusal
     → (name ≡ codes "boards" → ListingFails rows refusal) × (name ≡ codes "solve" → OptionsFail rows refusal) × (name ≡ codes "replay" → OptionsFail rows refusal)
+
+-- the groups of a request that has options
+abbrev pub HasPartition : Request → Type 0
+HasPartition (Solve o) = IsPartition o.groups
+HasPartition (Certify o) = IsPartition o.groups
+HasPartition (Replay o) = IsPartition o.groups
+HasPartition _ = ⊤
+
+-- a subcommand whose options ask for a run is refused only where memory is, for the groups
+abbrev pub RunsHaveNoFault : Type 0
+RunsHaveNoFault = (subcommand : Option (Text × List Row)) (request : Request) (refusal : NoRequest) → HasPartition request → AsksRun subcommand request → RunFails subcommand refusal → IsWant refusal
+
+-- without a subcommand, or with one of another name, the parser's matches alone are refused
+abbrev pub OthersAreNoMatch : Type 0
+OthersAreNoMatch =
+    (name : Text) (rows : List Row) (refusal : NoRequest)
+    → (RunFails None refusal → refusal ≡ NoMatch)
+    × (name ≢ codes "solve" → name ≢ codes "replay" → name ≢ codes "show" → name ≢ codes "boards" → RunFails (Some (name, rows)) refusal → refusal ≡ NoMatch)
+
+-- a number is said by decimal digits: `1x` and the empty text say none, and `+07` says 7
+abbrev pub NumbersAreDecimal : Type 0
+NumbersAreDecimal =
+    (rows : List Row) (id : Text) (n : ℕ)
+    → HasNumber rows id n
+    → (one_of id rows ≢ Some (codes "1x")) × (one_of id rows ≢ Some []) × (one_of id rows ≡ Some (codes "+07") → n ≡ 7)
 
 -- which boards are listed is judged before the goal
 abbrev pub ListingsAreJudgedBeforeGoals : Type 0

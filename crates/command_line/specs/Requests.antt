@@ -1,5 +1,5 @@
 -- What the arguments of a command line ask for.
-use Rattle.std.specs.Prelude.{ℕ, ◌≡◌, ◌≢◌, ◌≤◌, ◌⊎◌, ◌↔◌, ◌-◌, ◌^◌, ◌<◌, false, IsTrue, List, [], ◌∷◌, Option, Some, None, codes, option_map, map, ⊤}
+use Rattle.std.specs.Prelude.{ℕ, ◌≡◌, ◌≢◌, ◌≤◌, ◌⊎◌, ◌↔◌, ◌-◌, ◌^◌, ◌<◌, false, IsTrue, List, [], ◌∷◌, Option, Some, None, codes, option_map, map}
 use Rattle.std.specs.Str.Parse.{IsNumeral, digits_value, without_leading_plus}
 use Rattle.clap.specs.Words.{Text, Row, App, Kinds, IsAmong, kind_of, first_of, one_of, fault_of, subcommand_of}
 use Rattle.clap.specs.declared.error.kind.ErrorKind.{ErrorKind}

@@ -13,6 +13,7 @@ ghost use Rattle.command_line.specs.Laws.{CertIsSaid, TextsAreOfFaults, UsageIsO
 ghost use Rattle.command_line.specs.Laws.{RequestsAreOfTheirCommands, RunsAreSaid};
 ghost use Rattle.command_line.specs.Laws.{RunsWithoutBoardsAreAsked, RefusalsAreOfOptions};
 ghost use Rattle.command_line.specs.Laws.{ListingsAreJudgedBeforeGoals, ChoicesAreThree};
+ghost use Rattle.command_line.specs.Laws.{RunsHaveNoFault, OthersAreNoMatch, NumbersAreDecimal};
 
 /// One shape is said, one goal and one rule of costs; and where these are said, their texts have no
 /// fault. One style of drawing is said.
@@ -28,12 +29,16 @@ pub fn options_say_one_thing()
 
 /// Options that are said have no fault, except that memory may be refused. They say one goal, rule
 /// of costs, limit, count of workers and spread. So it is with boards that are said: they are one
-/// list.
+/// list. What asks for a run is refused only where memory is. Other subcommands have no match.
+/// Numbers are decimal.
 pub fn options_have_no_fault()
     ensures options { OptionsHaveNoFault }
     ensures listings { ListingsHaveNoFault }
     ensures one_search { OptionsAreDetermined }
     ensures one_list { ListingsAreDetermined }
+    ensures runs { RunsHaveNoFault }
+    ensures others { OthersAreNoMatch }
+    ensures numbers { NumbersAreDecimal }
 {}
 
 /// The goal is judged before the costs, and these before the groups: no options have faults of two
