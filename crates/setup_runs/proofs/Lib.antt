@@ -1,3 +1,2 @@
-pub mod AheadLemmas
 pub mod SolvingLemmas
 pub mod LawLemmas

@@ -1,5 +1,7 @@
 -- What the setup's workers answer is what its rules allow.
-use Rattle.std.proofs.Common.{ℕ, ◌≡◌, ◌⊎◌, ◌↔◌, ◌≤◌, None, Some, Result, Ok, Err, IfOk, refl, ap, subst, inl, inr, sym, arith}
+use Rattle.std.proofs.Common.{ℕ, ◌≡◌, ◌⊎◌, ◌↔◌, ◌≤◌, ◌++◌, ◌∷◌, [], All, Bool, true, false, if◌then◌else◌, Vec, None, Some, Result, Ok, Err, IfOk, refl, ap, subst, inl, inr, sym, arith}
+use Rattle.std.proofs.lemmas.List.Elements.{All-nil, All-push}
+use Rattle.std.specs.declared.alloc.Global.{Global}
 use Rattle.board.specs.Boards.{BoardModel}
 use Rattle.board.specs.Classes.{SameClass}
 use Rattle.memory.specs.declared.OutOfMemory.{OutOfMemory}
@@ -24,7 +26,8 @@ use Rattle.batch_runs.specs.Setups.{SetupModel, owner_by, task_of_setup}
 use Rattle.batch_runs.specs.Batches.{IsTruthful}
 use Rattle.thread_joins.specs.Threads.{IsJoined}
 use Rattle.thread_runs.specs.Solved.{IsFoundByWorkers, IsLeftToOne}
-use Rattle.setup_runs.specs.Ahead.{LacksMemory}
+use Rattle.setup_runs.specs.Ahead.{LacksMemory, IsTried, AreTried}
+use Rattle.setup_runs.specs.declared.ahead.Tried.{Tried}
 use Rattle.batch_runs.specs.declared.stats.Solved.{Solved}
 use Rattle.setup_runs.specs.Solving.{AnswersBoard, IsFound, IsFoundByOne, IsSearched, IsNoBound, IsOfRun, IsOfProvedRun, MayAnswer, MayCertify, certifying_rules_of, problem_of, problem_within, rules_of, AreStatsOf, AreFiguresOfRun, HasStats}
 use Rattle.outcomes.specs.declared.outcome.Outcome.{Outcome}
@@ -256,3 +259,15 @@ certified_answered setup b o (answers, inl (together, (solved, kept))) = by_rows
     by_rows (outcome.Unsolvable why) answers solved kept = inl (ends (outcome.Unsolvable why) tt answers solved kept)
     by_rows (outcome.Bounded bound best cause (Some rows)) answers solved kept = inl (ends (outcome.Bounded bound best cause (Some rows)) refl answers solved kept)
     by_rows (outcome.Bounded bound best cause None) answers solved kept = inr (refl, answers.1)
+
+-- ---- What lanes have of boards that are solved ahead.
+
+module _ (setup : SetupModel) where
+  -- an empty lane has none
+  pub no_tried : (lane : Vec Tried Global) → lane.items ≡ [] → AreTried setup lane
+  no_tried lane is = subst (All (IsTried setup)) (sym is) (All-nil (IsTried setup))
+
+  -- a lane has one more, if it was pushed
+  pub tried_more : (lane new : Vec Tried Global) (it : Tried) (pushed : Bool) → new.items ≡ (if pushed then lane.items ++ it ∷ [] else lane.items) → AreTried setup lane → IsTried setup it → AreTried setup new
+  tried_more lane new it true is tried may = subst (All (IsTried setup)) (sym is) (All-push (IsTried setup) lane.items it tried may)
+  tried_more lane new it false is tried may = subst (All (IsTried setup)) (sym is) tried

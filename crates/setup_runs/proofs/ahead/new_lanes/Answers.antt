@@ -1,7 +1,7 @@
 use Rattle.std.proofs.Common.{All, subst, sym}
 use Rattle.std.proofs.lemmas.List.Elements.{All-push}
 use Rattle.setup_runs.specs.Ahead.{AreTried}
-use Rattle.setup_runs.proofs.AheadLemmas.{no_tried}
+use Rattle.setup_runs.proofs.SolvingLemmas.{no_tried}
 use Rattle.setup_runs.proofs.ahead.new_lanes.Goals as goal
 
 pub threads-preserved : goal.threads-preserved

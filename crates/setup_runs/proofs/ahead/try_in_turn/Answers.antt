@@ -1,5 +1,5 @@
 use Rattle.std.proofs.Common.{is_ok}
-use Rattle.setup_runs.proofs.AheadLemmas.{tried_more}
+use Rattle.setup_runs.proofs.SolvingLemmas.{tried_more}
 use Rattle.setup_runs.proofs.ahead.try_in_turn.Goals as goal
 
 pub returns-then-is_err : goal.returns-then-is_err
