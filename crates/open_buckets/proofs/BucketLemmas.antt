@@ -1,14 +1,15 @@
 -- Buckets where one changes.
-use Rattle.std.proofs.Common.{◌≡◌, ◌≢◌, ℕ, ◌+◌, ◌-◌, ◌<◌, ◌≤◌, ◌∙◌, List, [], ◌∷◌, ◌++◌, length, sym, ap, subst, inl, inr, arith, get_or, length-set}
-use Rattle.std.specs.Prelude.{map, set, take, IsPermutation, Contains}
+use Rattle.std.proofs.Common.{◌≡◌, ◌≢◌, ℕ, ◌+◌, ◌-◌, ◌<◌, ◌≤◌, ◌∙◌, List, [], ◌∷◌, ◌++◌, length, sym, ap, refl, subst, inl, inr, arith, get_or, length-set, Some}
+use Rattle.std.specs.Prelude.{map, set, swap, take, slice_get, IsPermutation, Contains}
 use Rattle.std.specs.List.Sorted.{IsNonDecreasingBy}
 use Rattle.std.specs.Vec.{vec_len}
 use Rattle.std.specs.declared.vec.Vec.{Vec}
 use Rattle.std.proofs.lemmas.Bool.{cases_eq, cases_lt}
 use Rattle.std.proofs.lemmas.List.{take_more, take_all, get_or-set_same, get_or-set_other, get_or-map, length-map, get_or_past, get_or_append_left, get_or_push, length_push, nil_from_length}
 use Rattle.std.proofs.Math.Seq.{map-set_same}
-use Rattle.std.proofs.lemmas.List.Sorted.{Contains-permutation, IsPermutation-sym}
-use Rattle.open_buckets.specs.OpenLists.{OpenModel, entries_at, places_at, NothingWaits, OthersStay, PutsEntry, TakesEntry, Sorts, IsNextEntry}
+use Rattle.std.proofs.lemmas.List.Sorted.{Contains-permutation, IsPermutation-sym, IsPermutation-refl, IsPermutation-swap}
+use Rattle.std.proofs.lemmas.Option.{get_or_from_slice_get, slice_get_within}
+use Rattle.open_buckets.specs.OpenLists.{OpenModel, entries_at, places_at, NothingWaits, OthersStay, PutsEntry, TakesEntry, Sorts, BringsLast, IsNextEntry}
 use Rattle.open_buckets.specs.Buckets.{list_of}
 
 module _ {K Z : Type 0} where
@@ -100,6 +101,23 @@ module _ {K Z : Type 0} where
         others = others_set;
       }
 
+      -- two entries exchanged, of which the second is the last one
+      pub brought_in : (before : ℕ) → before < length old.items → b.items ≡ swap old.items before (old.len - 1) → ((d : K × ℕ) → get_or b.items (old.len - 1) d ≡ get_or old.items before d) → b.len ≡ old.len → b.cap ≡ old.cap → BringsLast f before (list_of bs) (list_of (set bs f b))
+      brought_in before within items last len cap =
+          let old_len = old.ok.0 in
+          let new_len = b.ok.0 in record {
+            exchanged = subst (λ xs. IsPermutation xs (entries_at (list_of (set bs f b)) f)) (sym entries_old) (subst (IsPermutation old.items) (sym entries_set) (IsPermutation-swap old.items b.items before (old.len - 1) within (omega (arith, within)) items));
+            last = λ entry there.
+                let here : slice_get old.items before ≡ Some entry = ap (λ xs. slice_get xs before) (sym entries_old) ∙ there in
+                let read : get_or b.items (old.len - 1) entry ≡ entry = last entry ∙ get_or_from_slice_get old.items before entry entry here in
+                let size : length b.items ≡ old.len - 1 + 1 = omega (arith, within) in
+                let cut : take (length b.items) b.items ≡ take (old.len - 1) b.items ++ get_or b.items (old.len - 1) entry ∷ [] = ap (λ n. take n b.items) size ∙ take_more b.items (old.len - 1) entry (omega (arith, size)) in
+                (take (old.len - 1) b.items, entries_set ∙ sym (take_all (length b.items) b.items (omega arith)) ∙ cut ∙ ap (λ x. take (old.len - 1) b.items ++ x ∷ []) read);
+            none = λ past. let e : length (entries_at (list_of bs) f) ≡ length old.items = ap length entries_old in absurd (omega (arith, past, within, e));
+            places = let p = places_set in let o = places_old in omega (arith, p, o, len, cap);
+            others = others_set;
+          }
+
       -- a bucket replaced by one with the same entries and as many places
       pub nothing_taken : b.items ≡ old.items → b.cap ≡ old.cap → b.len ≡ old.len → list_of (set bs f b) ≡ list_of bs
       nothing_taken items cap len = λ q. record {
@@ -122,6 +140,10 @@ module _ {K Z : Type 0} where
             subst (λ (k : ℕ). places_at (list_of bs) k ≤ places_at (list_of (set bs f b)) k) (sym here) there
         | inr apart ↦ let e = (others_set h apart).1 in omega arith
       ]
+
+  -- an entry of a bucket
+  pub entry_in : (bs : List (Vec (K × ℕ) Z)) (f : ℕ) (b : Vec (K × ℕ) Z) → f < length bs → b ≡ get_or bs f b → entries_at (list_of bs) f ≡ b.items
+  entry_in bs f b lt is = entries_in bs f b lt ∙ ap (λ (v : Vec (K × ℕ) Z). v.items) (sym is)
 
   -- one empty bucket more
   pub entries_more : (bs : List (Vec (K × ℕ) Z)) (v : Vec (K × ℕ) Z) → v.items ≡ [] → (h : ℕ) → entries_at (list_of (bs ++ v ∷ [])) h ≡ entries_at (list_of bs) h
@@ -159,6 +181,16 @@ module _ {K Z : Type 0} where
         last = (take (b.len - 1) b.items, entries_in bs f b lt ∙ ap (λ (v : Vec (K × ℕ) Z). v.items) (sym is) ∙ sym (take_all (length b.items) b.items (omega arith)) ∙ cut ∙ ap (λ x. take (b.len - 1) b.items ++ x ∷ []) (sym read));
         least = before;
       }
+
+-- no such entry
+pub none_brought : {K : Type 0} (list : OpenModel K) (f before : ℕ) → length (entries_at list f) ≤ before → BringsLast f before list list
+none_brought list f before past = record {
+  exchanged = IsPermutation-refl (entries_at list f);
+  last = λ entry there. let lt = slice_get_within (entries_at list f) before entry there in absurd (omega (arith, past, lt));
+  none = λ _. refl;
+  places = refl;
+  others = λ h apart. (refl, refl);
+}
 
 -- what is next where the entries at f were put in order
 next_is_last : {K : Type 0} (f : ℕ) (next : K × ℕ) (new : OpenModel K) (is_next : IsNextEntry f next new) (d : K × ℕ) → (get_or (entries_at new f) (length is_next.last.0) d ≡ next) × (length (entries_at new f) ≡ length is_next.last.0 + 1)

@@ -1,6 +1,6 @@
 -- What contracts see of an open list: for each f its entries, and how many more have a place. An entry is a key and a cost; its f is the
 -- cost of a board plus its sum.
-use Rattle.std.specs.Prelude.{ℕ, ◌≡◌, ◌≢◌, ◌<◌, ◌≤◌, ◌+◌, List, [], ◌∷◌, ◌++◌, Option, None, Some, slice_index, slice_index_or, IsPermutation}
+use Rattle.std.specs.Prelude.{ℕ, ◌≡◌, ◌≢◌, ◌<◌, ◌≤◌, ◌+◌, List, length, [], ◌∷◌, ◌++◌, Option, None, Some, slice_index, slice_get, slice_index_or, IsPermutation}
 use Rattle.std.specs.List.Sorted.{IsNonDecreasingBy}
 
 -- Entries and places, both by f.
@@ -38,6 +38,14 @@ pub record PutsEntry {K : Type 0} (f : ℕ) (entry : K × ℕ) (old new : OpenMo
 pub record Sorts {K : Type 0} (f : ℕ) (old new : OpenModel K) : Type 0 where
   pub moved : IsPermutation (entries_at old f) (entries_at new f)
   pub sorted : IsNonDecreasingBy (λ (entry : K × ℕ). entry.1) (entries_at new f)
+  pub places : places_at new f ≡ places_at old f
+  pub others : OthersStay f old new
+
+-- the entry at f with this many before it is made the last one there, by an exchange of the two; where there is none, nothing moves
+pub record BringsLast {K : Type 0} (f before : ℕ) (old new : OpenModel K) : Type 0 where
+  pub exchanged : IsPermutation (entries_at old f) (entries_at new f)
+  pub last : (entry : K × ℕ) → slice_get (entries_at old f) before ≡ Some entry → (rest : List (K × ℕ)) × (entries_at new f ≡ rest ++ entry ∷ [])
+  pub none : length (entries_at old f) ≤ before → new ≡ old
   pub places : places_at new f ≡ places_at old f
   pub others : OthersStay f old new
 

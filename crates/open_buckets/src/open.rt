@@ -1,10 +1,11 @@
 //! Entries in buckets, and a cursor to the lowest of them.
 
 ghost use Rattle.std.specs.Prelude.{◌≡◌, ◌≢◌, ◌<◌, ◌≤◌, ◌+◌, ◌^◌, ℕ, OnOk, OnErr, MatchOption};
-ghost use Rattle.std.specs.Prelude.{IsTrue, ◌↔◌};
+ghost use Rattle.std.specs.Prelude.{IsTrue, ◌↔◌, length, slice_get};
 ghost use Rattle.std.specs.Prelude.{vec_len, vec_capacity};
 ghost use Rattle.open_buckets.specs.OpenLists.{empty_list, entries_at, places_at, NothingWaits};
 ghost use Rattle.open_buckets.specs.OpenLists.{PutsEntry, TakesEntry, Sorts, IsNextEntry, IsLeastF};
+ghost use Rattle.open_buckets.specs.OpenLists.{BringsLast};
 
 use memory::OutOfMemory;
 use std::alloc::Global;
@@ -133,6 +134,47 @@ impl<K: Copy> Open<K> {
         if place < self.buckets.len() {
             let bucket = &mut self.buckets[place];
             bucket.sort_unstable_by_key(|entry| entry.1);
+        }
+    }
+
+    /// How many entries there are at an f.
+    pub fn count_at(&self, f: u32) -> usize
+        ensures { result ≡ length (entries_at self.now f) }
+    {
+        let place = f as usize;
+        if place >= self.buckets.len() {
+            return 0;
+        }
+        self.buckets[place].len()
+    }
+
+    /// The entry at an f with this many before it there; None where there are no more.
+    pub fn entry_at(&self, f: u32, before: usize) -> Option<(K, u32)>
+        ensures { result ≡ slice_get (entries_at self.now f) before }
+    {
+        let place = f as usize;
+        if place >= self.buckets.len() {
+            return None;
+        }
+        let bucket = &self.buckets[place];
+        if before >= bucket.len() {
+            return None;
+        }
+        Some(bucket[before])
+    }
+
+    /// Exchanges the entry at an f with this many before it there, and the last one there. Where
+    /// there are no more, nothing changes.
+    pub fn bring_last(&mut self, f: u32, before: usize)
+        ensures { BringsLast f before self.old self.new }
+    {
+        let place = f as usize;
+        if place < self.buckets.len() {
+            let bucket = &mut self.buckets[place];
+            let count = bucket.len();
+            if before < count {
+                bucket.swap(before, count - 1);
+            }
         }
     }
 
