@@ -5,10 +5,10 @@ use Rattle.std.specs.FinMap as map
 use Rattle.std.proofs.lemmas.Bool.{cases_eq, cases_lt, cases_Bool, cond-true, cond-false}
 use Rattle.std.proofs.lemmas.List.{length-append, nil_from_length}
 use Rattle.std.proofs.lemmas.List.Elements.{Contains-append_left, Contains-push, Contains-push_cases}
-use Rattle.std.proofs.lemmas.List.Sorted.{Contains-permutation, IsPermutation-sym, length_permutation}
-use Rattle.std.proofs.lemmas.Option.{slice_get_within}
+use Rattle.std.proofs.lemmas.List.Sorted.{Contains-permutation, IsPermutation-sym, IsPermutation-trans, length_permutation}
+use Rattle.std.proofs.lemmas.Option.{slice_get_within, get_or_from_slice_get}
 use Rattle.board.specs.declared.moves.Move.{Move}
-use Rattle.open_buckets.specs.OpenLists.{OpenModel, entries_at, places_at, NothingWaits, IsLeastF, PutsEntry, TakesEntry, Sorts, IsNextEntry}
+use Rattle.open_buckets.specs.OpenLists.{OpenModel, entries_at, places_at, NothingWaits, IsLeastF, PutsEntry, TakesEntry, Sorts, BringsLast, IsNextEntry}
 use Rattle.closed_table.specs.Tables.{ClosedModel, arrivals, relaxation_answer, table_relaxation, table_closure}
 use Rattle.closed_table.specs.declared.table.Relaxed.TheVariants.{New, Lower, Kept}
 use Rattle.world_model.specs.declared.parts.Known.{Known}
@@ -16,7 +16,7 @@ use Rattle.world_model.specs.Knowledge.{Knowledge, is_news}
 use Rattle.world_model.proofs.ChangeLemmas.{with_insert, get_inserted, same_known}
 use Rattle.search_lists.specs.Lists.{SearchListsModel, both, AreKnown, HasEntriesOf, HasMoreRoom}
 use Rattle.open_buckets.specs.declared.open.TheConstants.{GREATEST_F}
-use Rattle.search_lists.specs.Orders.{Guide, IsOpenKey, IsInOrder, NoneBelow, IsFirst, IsLeastOpen, AddsUp}
+use Rattle.search_lists.specs.Orders.{Guide, IsOpenKey, IsInOrder, NoneBelow, IsFirst, IsWaiting, IsLeastOpen, AddsUp}
 use Rattle.search_lists.specs.declared.lists.Next.{Next}
 use Rattle.search_lists.specs.declared.lists.Met.{Met}
 
@@ -125,6 +125,43 @@ lowest_sorted f old new sorts lowest = (
   λ none. lowest.0 (nil_from_length (entries_at old f) (sym (length_permutation (entries_at old f) (entries_at new f) sorts.moved) ∙ ap length none)),
   λ h below. (sorts.others h (omega (arith, below))).0 ∙ lowest.1 h below,
 )
+
+-- so it does where one is made the last
+pub lowest_brought : (f before : ℕ) (old new : OpenModel ℕ) → BringsLast f before old new → IsLeastF old (Some f) → IsLeastF new (Some f)
+lowest_brought f before old new brings lowest = (
+  λ none. lowest.0 (nil_from_length (entries_at old f) (sym (length_permutation (entries_at old f) (entries_at new f) brings.exchanged) ∙ ap length none)),
+  λ h below. (brings.others h (omega (arith, below))).0 ∙ lowest.1 h below,
+)
+
+-- entries that are moved twice are the same ones
+pub moved_twice : (old between new : OpenModel ℕ) → HasEntriesOf old between → HasEntriesOf between new → HasEntriesOf old new
+moved_twice old between new first second = record {
+  entries = λ h. IsPermutation-trans (entries_at old h) (entries_at between h) (entries_at new h) (first.entries h) (second.entries h);
+  places = λ h. second.places h ∙ first.places h;
+}
+
+-- what is next up to the least f is at that f
+pub next_at : (f h : ℕ) (entry : Entry) (list : OpenModel ℕ) → IsLeastF list (Some f) → h < f + 1 → IsNextEntry h entry list → IsNextEntry f entry list
+next_at f h entry list lowest below is =
+    ⊎_elim
+    (λ (here : h ≡ f). subst (λ (k : ℕ). IsNextEntry k entry list) here is)
+    (λ (apart : h ≢ f). absurd (none (subst (λ (xs : List Entry). Contains xs entry) (lowest.1 h (omega (arith, below, apart))) (is_there h entry list is))))
+    (cases_eq h f)
+  where
+    none : Contains [] entry → ⊥
+    none has = omega (arith, has.1)
+
+-- what is read of entries is one of them
+pub entry_has : (entries : List Entry) (before : ℕ) (entry : Entry) → slice_get entries before ≡ Some entry → Contains entries entry
+entry_has entries before entry is = (before, slice_get_within entries before entry is, get_or_from_slice_get entries before entry entry is)
+
+-- what waits first waits
+pub first_waits : (lists : SearchListsModel) (next : Next) → IsFirst lists next → IsWaiting lists next
+first_waits lists next first = record {
+  place = first.place;
+  known = (first.known.0, first.known.1, first.known.4);
+  waits = is_there next.f (next.place, next.cost) lists.waiting first.waits;
+}
 
 module _ (old new : OpenModel ℕ) (same : HasEntriesOf old new) where
   had : (h : ℕ) (x : Entry) → Contains (entries_at new h) x → Contains (entries_at old h) x

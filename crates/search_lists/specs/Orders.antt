@@ -42,6 +42,12 @@ pub record IsFirst (lists : SearchListsModel) (next : Next) : Type 0 where
   pub waits : IsNextEntry next.f (next.place, next.cost) lists.waiting
   pub within : next.f + 1 < 2 ^ 32
 
+-- the board is at this place, was put at this f with this cost, and is known by this last move: it may be closed, or have another cost now
+pub record IsWaiting (lists : SearchListsModel) (next : Next) : Type 0 where
+  pub place : slice_get lists.closed.keys next.place ≡ Some next.key
+  pub known : (known : Known) × (map.get lists.closed.known next.key ≡ Some known) × (known.via ≡ next.via)
+  pub waits : Contains (entries_at lists.waiting next.f) (next.place, next.cost)
+
 -- the board is open at this cost by this last move, and one of least cost plus sum
 pub record IsLeastOpen (guide : Guide) (closed : ClosedModel) (next : Next) : Type 0 where
   pub opens : (known : Known) × IsOpenKey guide closed next.key known × (known.cost ≡ next.cost) × (known.via ≡ next.via)

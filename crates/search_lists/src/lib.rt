@@ -15,4 +15,4 @@
 pub mod laws;
 mod lists;
 
-pub use lists::{Met, Next, SearchLists};
+pub use lists::{BATCH, BOARDS_IN_CACHE, Met, Next, SearchLists};

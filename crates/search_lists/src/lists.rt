@@ -14,7 +14,7 @@ ghost use Rattle.world_model.specs.Knowledge.{is_news};
 ghost use Rattle.search_lists.specs.declared.lists.TheConstants.{ROOM_AT_ONCE};
 ghost use Rattle.search_lists.specs.Lists.{empty_lists, both, AreKnown, HasMoreRoom, HasEntriesOf};
 ghost use Rattle.search_lists.specs.Orders.{Guide, IsInOrder, NoneBelow, IsFloorOfLists, IsFirst};
-ghost use Rattle.search_lists.specs.Orders.{IsLeastOpen, AddsUp};
+ghost use Rattle.search_lists.specs.Orders.{IsLeastOpen, AddsUp, IsWaiting};
 
 use board::Move;
 use closed_table::{Closed, Relaxed};
@@ -27,6 +27,14 @@ use world_model::Known;
 
 // For how many boards places are made at once, where there is memory.
 const ROOM_AT_ONCE: usize = 64;
+
+/// The most boards of one f that are taken together, so that the reads of memory for one overlap
+/// with those for another.
+pub const BATCH: usize = 16;
+
+/// What is known of fewer boards lies in the processor's caches: to read ahead, and to take boards
+/// together, gains nothing there.
+pub const BOARDS_IN_CACHE: usize = 1 << 12;
 
 /// A board that was met at a cost by a last move.
 #[derive(Clone, Copy, Debug)]
@@ -51,6 +59,14 @@ pub struct Next {
     pub f: u32,
 }
 
+// The entries at an f that are taken together, each in its turn: this many from a place downwards.
+#[derive(Clone, Copy)]
+struct Batch {
+    f: u32,
+    place: usize,
+    left: usize,
+}
+
 /// The known boards, and which of them wait to be expanded, by cost plus sum.
 #[derive(Drop)]
 pub struct SearchLists {
@@ -60,6 +76,8 @@ pub struct SearchLists {
     ordered: u32,
     // Whether a goal was met, which is worth a look then.
     goal_met: bool,
+    // What is taken together. No contract speaks of it.
+    batch: Batch,
 }
 
 impl Model for SearchLists {
@@ -84,6 +102,11 @@ impl SearchLists {
             open: Open::new(alloc),
             ordered: 0,
             goal_met: false,
+            batch: Batch {
+                f: 0,
+                place: 0,
+                left: 0,
+            },
         }
     }
 
@@ -190,7 +213,13 @@ impl SearchLists {
         ensures least { IfSome result (λ next. (guide : Guide) → IsInOrder guide self.old
             → IsLeastOpen guide self.old.closed next) }
     {
-        let Some(next) = next_open(&self.closed, &mut self.open, &mut self.ordered, below) else {
+        let Some(next) = next_open(
+            &self.closed,
+            &mut self.open,
+            &mut self.ordered,
+            &mut self.batch,
+            below,
+        ) else {
             return None;
         };
         Some(next)
@@ -237,6 +266,30 @@ impl SearchLists {
         take_first(&mut self.open, first);
         self.closed.mark_expanded_at(next.place as usize);
         read_next(&mut self.closed, &self.open, next.f);
+    }
+
+    /// One of the boards that are taken together with the one that `next` answered last, by how many
+    /// of these come before it. None where there are no more. No more than a hint: the board may be
+    /// closed already, or have another cost.
+    #[inline(always)]
+    pub fn upcoming(&self, before: usize) -> Option<Next>
+        ensures { IfSome result (IsWaiting self.now) }
+    {
+        if before >= self.batch.left {
+            return None;
+        }
+        let index = self.batch.place.saturating_sub(before + 1);
+        let Some((place, cost)) = self.open.entry_at(self.batch.f, index) else {
+            return None;
+        };
+        let (key, known) = self.closed.at(place as usize);
+        Some(Next {
+            place,
+            key,
+            cost,
+            via: known.via,
+            f: self.batch.f,
+        })
     }
 
     /// Reads ahead what `relax` will read of a key. It changes nothing.
@@ -324,6 +377,7 @@ fn next_open(
     closed: &Closed,
     waiting: &mut Open<u32>,
     ordered: &mut u32,
+    batch: &mut Batch,
     below: u32,
 ) -> Option<Next>
     requires { AreKnown (both closed.now waiting.old) }
@@ -335,7 +389,12 @@ fn next_open(
     ensures first { IfSome result (IsFirst (both closed.now waiting.new)) }
     ensures below { IfSome result (λ next. next.f < below) }
 {
-    'entries: while let Some(first) = first_waiting(waiting, ordered, below) {
+    let together = if closed.len() < BOARDS_IN_CACHE {
+        1
+    } else {
+        BATCH
+    };
+    'entries: while let Some(first) = first_waiting(waiting, ordered, batch, together, below) {
         let (key, known) = closed.at(first.place as usize);
         if is_current(known, first.cost) {
             return Some(Next {
@@ -367,9 +426,15 @@ struct Waiting {
     cost: u32,
 }
 
-// What waits next, where its f is below a limit.
+// What waits next, where its f is below a limit. Up to `together` entries at one f take turns.
 #[inline(always)]
-fn first_waiting(waiting: &mut Open<u32>, ordered: &mut u32, below: u32) -> Option<Waiting>
+fn first_waiting(
+    waiting: &mut Open<u32>,
+    ordered: &mut u32,
+    batch: &mut Batch,
+    together: usize,
+    below: u32,
+) -> Option<Waiting>
     ensures same { HasEntriesOf waiting.old waiting.new }
     ensures next { MatchOption result (NothingWaits waiting.new below)
         (λ first. (first.f < below) × IsNextEntry first.f (first.place, first.cost) waiting.new) }
@@ -380,6 +445,7 @@ fn first_waiting(waiting: &mut Open<u32>, ordered: &mut u32, below: u32) -> Opti
     if f >= below {
         return None;
     }
+    bring_turn(waiting, batch, together, f);
     let Some((place, cost)) = waiting.peek_lowest(f + 1) else {
         unreachable!()
     };
@@ -401,6 +467,27 @@ fn lowest_in_order(waiting: &mut Open<u32>, ordered: &mut u32) -> Option<u32>
         *ordered = f;
     }
     Some(f)
+}
+
+// Puts the entry at f whose turn it is last there. Where none is left, or f is another one, the last
+// entries at f, up to `together`, are the next ones that take turns.
+#[inline(always)]
+fn bring_turn(waiting: &mut Open<u32>, batch: &mut Batch, together: usize, f: u32)
+    ensures same { HasEntriesOf waiting.old waiting.new }
+    ensures lowest { IsLeastF waiting.old (Some f) → IsLeastF waiting.new (Some f) }
+{
+    if together <= 1 {
+        return;
+    }
+    if batch.left == 0 || batch.f != f {
+        let count = waiting.count_at(f);
+        batch.f = f;
+        batch.place = count;
+        batch.left = count.min(together);
+    }
+    batch.left = batch.left.saturating_sub(1);
+    batch.place = batch.place.saturating_sub(1);
+    waiting.bring_last(f, batch.place);
 }
 
 // Takes out what waits next.
