@@ -19,7 +19,7 @@ use std::alloc::Global;
 use std::io::{self, Print};
 use test_worlds::bound_of;
 use worker_core::laws::tasks_have_guides;
-use worker_core::{Context, Goal, Successors, Worker};
+use worker_core::{Ahead, Context, Goal, Successors, Worker};
 use world_model::{Item, Refusal};
 
 // A board whose plans cost at least 57 (Korf 1985, the first of his hundred).
@@ -69,11 +69,12 @@ fn expand_boards(
     requires serves { Serves context.now worker.old }
     requires counted { worker.old.allowance.granted ≡ book.old.granted }
 {
+    let mut ahead = Ahead::new::<ByBlank>(alloc);
     'boards: for _ in 0..count {
         if !refill(context, worker, book) {
             break;
         }
-        match worker.expand(alloc, context, Successors::All) {
+        match worker.expand(alloc, context, &mut ahead, Successors::All) {
             Ok(()) => {}
             Err(Refusal::NothingBelowLimit) => break,
             Err(_) => return None,

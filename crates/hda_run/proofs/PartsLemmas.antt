@@ -20,7 +20,7 @@ use Rattle.world_model.specs.BookSteps.{AtBook}
 use Rattle.world_model.specs.Credit.{IsCredited}
 use Rattle.world_model.specs.Shapes.{IsShaped, IsTask}
 use Rattle.world_model.specs.Soundness.{IsSound}
-use Rattle.world_model.specs.Steps.{ByWorker, OnBook, with_worker, OnLane, lane_ends, with_lane}
+use Rattle.world_model.specs.Steps.{ByWorker, OnBook, with_worker, OnLane, lane_ends, with_lane, Next}
 use Rattle.world_model.specs.Turns.{Turn, turn}
 use Rattle.world_model.specs.Workers.{WorkerState, Lane}
 use Rattle.world_model.specs.Worlds.{IsWorker, Knows, role_of, IsLane}
@@ -46,7 +46,11 @@ use Rattle.worker_core.specs.Workers.{state_of, with_book, at_lane}
 use Rattle.hda_run.specs.declared.parts.Parts.{Parts}
 use Rattle.hda_run.specs.Kinds.{Lacks}
 use Rattle.hda_run.specs.Jobs.{context_in, task_in, JobModel}
-use Rattle.hda_run.specs.Worlds.{world_of, AreGuided, job_of, IsLawful, IsWorkerCount}
+use Rattle.hda_run.specs.Worlds.{world_of, AreGuided, job_of, IsLawful, IsWorkerCount, terms_in}
+use Rattle.offers.specs.Terms.{TermsModel}
+use Rattle.worker_core.specs.Ahead.{AreFoundAhead, terms_of}
+use Rattle.worker_core.specs.declared.ahead.Ahead.{Ahead}
+use Rattle.world_model.proofs.RunLemmas.{steps_alike}
 
 -- ---- what the parts of a world are, and what the world is after one of them has changed
 
@@ -189,6 +193,17 @@ module _ {S : Type 0} (owner_of : S → ℕ → BoardModel → ℕ) (parts : Par
     pub guided_after : (worker' : W) → StaysGuided context worker.lists worker'.lists → AreGuided parts → All (λ (w : W). Leads w.lists) (set parts.workers.items me worker')
     guided_after worker' stays all_guided =
         set_guided worker' (subst (λ (x : ContextModel S). StaysGuided x worker.lists worker'.lists) lent stays parts.job.start (guide_of (task_in parts.job))) all_guided
+
+    -- what a step was lent is of the parts' search
+    pub lent_terms : terms_of context ≡ terms_in parts
+    lent_terms = ap terms_of lent ∙ (λ t. record { rule = parts.job.rule; tables = parts.job.tables; owners = parts.owners.now; workers = all t })
+
+-- what was found in the search of some parts is found in that of the parts after a step
+pub found_after : {S : Type 0} (owner_of : S → ℕ → BoardModel → ℕ) (old new : Parts S) (step : Step) (answer : Option Refusal) → Next step (turn (world_of owner_of old) answer (world_of owner_of new)) → new.job ≡ old.job → new.owners.now ≡ old.owners.now → (ahead : Ahead) → AreFoundAhead owner_of (terms_in old) ahead → AreFoundAhead owner_of (terms_in new) ahead
+found_after {S} owner_of old new step answer next job owners ahead found =
+    let alike = steps_alike step (turn (world_of owner_of old) answer (world_of owner_of new)) next in
+    let count : length old.workers.items ≡ length new.workers.items = sym (state_count owner_of old) ∙ sym alike.2 ∙ state_count owner_of new in
+    subst (λ (terms : TermsModel S). AreFoundAhead owner_of terms ahead) (λ t. record { rule = (sym job t).rule; tables = (sym job t).tables; owners = sym owners t; workers = count t }) found
 
 -- ---- a world where a worker and a lane have changed
 

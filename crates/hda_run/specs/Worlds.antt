@@ -1,7 +1,10 @@
 -- What contracts see of a world.
 use Rattle.std.specs.Prelude.{ℕ, ◌≡◌, ◌≢◌, ◌<◌, ◌≤◌, [], All, length, map, slice_index_or}
 use Rattle.board.specs.Boards.{BoardModel}
+use Rattle.offers.specs.Terms.{TermsModel}
 use Rattle.search_lists.specs.Lists.{SearchListsModel}
+use Rattle.worker_core.specs.Ahead.{AreFoundAhead}
+use Rattle.worker_core.specs.declared.ahead.Ahead.{Ahead}
 use Rattle.worker_core.specs.Roles.{IsGuided, guide_of}
 use Rattle.worker_core.specs.Workers.{state_of}
 use Rattle.world_model.specs.declared.limits.TheConstants.{WORKER_LIMIT}
@@ -34,6 +37,15 @@ pub record IsLawful {S : Type 0} (owner_of : S → ℕ → BoardModel → ℕ) (
   pub sound : IsSound (world_of owner_of parts)
   pub credited : IsCredited (world_of owner_of parts)
   pub guided : AreGuided parts
+
+-- the search in which the workers' moves are offered
+abbrev pub terms_in : {S : Type 0} → Parts S → TermsModel S
+terms_in parts = record { rule = parts.job.rule; tables = parts.job.tables; owners = parts.owners.now; workers = length parts.workers.items }
+
+-- the parts of a world are lawful, and what was found ahead is what moves offer in its search
+pub record IsWorld {S : Type 0} (owner_of : S → ℕ → BoardModel → ℕ) (parts : Parts S) (ahead : Ahead) : Type 0 where
+  pub lawful : IsLawful owner_of parts
+  pub found : AreFoundAhead owner_of (terms_in parts) ahead
 
 -- something waits at f, and nothing below it
 abbrev pub WaitsFrom : SearchListsModel → ℕ → Type 0

@@ -4,6 +4,7 @@ ghost use Rattle.std.specs.Prelude.{ℕ, ◌≡◌, ◌≢◌, ◌⊎◌, ◌↔
 ghost use Rattle.outcomes.specs.Outcomes.{Task};
 ghost use Rattle.search_lists.specs.Orders.{Guide};
 ghost use Rattle.worker_core.specs.declared.expanding.Successors.{Successors};
+ghost use Rattle.worker_core.specs.Ahead.{AreFoundAhead};
 ghost use Rattle.worker_core.specs.Roles.{IsRoleOf, IsGuided};
 ghost use Rattle.worker_core.specs.Workers.{state_of, with_book, at_lane};
 ghost use Rattle.world_model.specs.declared.steps.Step.{Step};
@@ -13,7 +14,7 @@ ghost use Rattle.world_model.specs.Turns.{turn, refusal_in};
 ghost use Rattle.world_model.specs.Workers.{Role};
 ghost use Rattle.world_model.specs.WorkerSteps.{SendStep, DeliverStep};
 ghost use Rattle.hda_run.specs.Kinds.{Lacks};
-ghost use Rattle.hda_run.specs.Worlds.{world_of, IsLawful, AreGuided};
+ghost use Rattle.hda_run.specs.Worlds.{world_of, IsLawful, AreGuided, terms_in};
 
 use crate::job::Job;
 use message_ledger::Plain;
@@ -21,7 +22,7 @@ use owners::Spread;
 use quiescence::Book;
 use std::alloc::Global;
 use worker_core::laws::onward_steps_alone_are_whole;
-use worker_core::{Goal, Queue, Successors, Worker};
+use worker_core::{Ahead, Goal, Queue, Successors, Worker};
 use world_model::{Refusal, Step};
 
 /// What a world is made of.
@@ -36,12 +37,19 @@ pub struct Parts<'a, S: Spread> {
 }
 
 impl<'a, S: Spread> Parts<'a, S> {
-    /// A step. S15 comes before all other refusals.
-    pub(crate) fn step(&mut self, alloc: Global, step: Step) -> Result<(), Refusal>
-        requires { IsLawful S.owner_of self.old }
+    /// A step. S15 comes before all other refusals. What was found ahead is of these parts' search.
+    pub(crate) fn step(
+        &mut self,
+        alloc: Global,
+        ahead: &mut Ahead,
+        step: Step,
+    ) -> Result<(), Refusal>
+        requires lawful { IsLawful S.owner_of self.old }
+        requires found { AreFoundAhead S.owner_of (terms_in self.old) ahead.old }
         ensures step { Next step (turn (world_of S.owner_of self.old) (refusal_in result)
             (world_of S.owner_of self.new)) }
         ensures guided { AreGuided self.new }
+        ensures found { AreFoundAhead S.owner_of (terms_in self.old) ahead.new }
         ensures job { self.new.job ≡ self.old.job }
         ensures owners { self.new.owners.now ≡ self.old.owners.now }
     {
@@ -54,7 +62,7 @@ impl<'a, S: Spread> Parts<'a, S> {
             return Err(Refusal::NoSuchWorker);
         }
         let context = self.job.context(me, count, self.owners);
-        self.workers[me].expand(alloc, &context, successors_for(count))
+        self.workers[me].expand(alloc, &context, ahead, successors_for(count))
     }
 
     // A step that expands nothing. Most steps expand, and pay for no look at the others.

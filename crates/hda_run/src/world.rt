@@ -24,7 +24,7 @@ use owners::Spread;
 use quiescence::Book;
 use std::alloc::Global;
 use std::marker::Model;
-use worker_core::{Queue, Worker};
+use worker_core::{Ahead, Queue, Worker};
 use world_model::laws::{
     openings_are_sound, steps_keep_credited, steps_keep_shaped, steps_keep_sound,
 };
@@ -35,13 +35,15 @@ use world_model::{Refusal, Step, WORKER_LIMIT};
 #[derive(Drop)]
 pub struct World<'a, S: Spread> {
     pub(crate) parts: Parts<'a, S>,
+    // What moves offer, found before they are made. No contract speaks of it.
+    pub(crate) ahead: Ahead,
 }
 
 impl<'a, S: Spread> Model for World<'a, S> {
     ghost use Rattle.std.specs.Coded.{codes};
     ghost use Rattle.search_lists.specs.Lists.{lists_code};
     ghost use Rattle.hda_run.specs.declared.parts.Parts.{Parts};
-    ghost use Rattle.hda_run.specs.Worlds.{IsLawful};
+    ghost use Rattle.hda_run.specs.Worlds.{IsWorld};
 
     ghost Value = { Parts S };
 
@@ -49,7 +51,7 @@ impl<'a, S: Spread> Model for World<'a, S> {
 
     ghost view = { λ w. w.parts };
 
-    ghost invariant = { λ w. IsLawful S.owner_of w.parts };
+    ghost invariant = { λ w. IsWorld S.owner_of w.parts w.ahead };
 }
 
 impl<'a, S: Spread> World<'a, S> {
@@ -94,7 +96,8 @@ impl<'a, S: Spread> World<'a, S> {
         openings_are_sound();
         let _ = job.goal();
         let parts = open_parts(alloc, job, workers, spread)?;
-        Ok(World { parts })
+        let ahead = Ahead::new::<S>(alloc);
+        Ok(World { parts, ahead })
     }
 }
 
@@ -110,7 +113,7 @@ impl<'a, S: Spread> World<'a, S> {
         steps_keep_shaped();
         steps_keep_sound();
         steps_keep_credited();
-        self.parts.step(alloc, step)
+        self.parts.step(alloc, &mut self.ahead, step)
     }
 
     /// How many workers there are. Tells what each world keeps.

@@ -101,7 +101,7 @@ module _ {K Z : Type 0} where
         others = others_set;
       }
 
-      -- two entries exchanged, of which the second is the last one
+      -- an entry exchanged with the last one
       pub brought_in : (before : ℕ) → before < length old.items → b.items ≡ swap old.items before (old.len - 1) → ((d : K × ℕ) → get_or b.items (old.len - 1) d ≡ get_or old.items before d) → b.len ≡ old.len → b.cap ≡ old.cap → BringsLast f before (list_of bs) (list_of (set bs f b))
       brought_in before within items last len cap =
           let old_len = old.ok.0 in

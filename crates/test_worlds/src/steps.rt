@@ -10,7 +10,7 @@ use message_ledger::{Allowance, Counting, Purse};
 use owners::{ByBlank, Spread};
 use std::alloc::Global;
 use worker_core::laws::tasks_have_guides;
-use worker_core::{Context, Goal, Successors, Worker};
+use worker_core::{Ahead, Context, Goal, Successors, Worker};
 use world_model::{Item, Refusal};
 
 // How many workers there are.
@@ -73,7 +73,8 @@ pub fn expand<C: Counting, S: Spread>(
     }
     let goal = Goal::new(&job.goal);
     let context = context_of(job, &goal, owners, me);
-    Some(worker.expand(alloc, &context, Successors::All))
+    let mut ahead = Ahead::new::<S>(alloc);
+    Some(worker.expand(alloc, &context, &mut ahead, Successors::All))
 }
 
 // What the steps of one of two workers are lent.

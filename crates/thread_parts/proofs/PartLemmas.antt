@@ -27,6 +27,8 @@ use Rattle.search_lists.specs.Lists.{SearchListsModel}
 use Rattle.message_ledger.specs.Spending.{AllowanceModel, spent}
 use Rattle.worker_core.specs.declared.worker.Worker.{Worker}
 use Rattle.worker_core.specs.Contexts.{ContextModel, role_from}
+use Rattle.worker_core.specs.Ahead.{AreFoundAhead, terms_of}
+use Rattle.worker_core.specs.declared.ahead.Ahead.{Ahead}
 use Rattle.worker_core.specs.Expanding.{role_by}
 use Rattle.worker_core.specs.Roles.{IsGuided, guide_of}
 use Rattle.worker_core.specs.Serving.{Serves, StaysGuided}
@@ -35,7 +37,7 @@ use Rattle.worker_core.specs.Settling.{SettleOrDrop}
 use Rattle.rings.specs.Rings.{SenderModel, ReceiverModel, TakesIn, GivesOut, Looks, sent_lanes, received_lanes, left_lanes}
 use Rattle.hda_run.specs.Jobs.{JobModel, context_in, task_in}
 use Rattle.thread_parts.specs.declared.part.Part.{Part}
-use Rattle.thread_parts.specs.Parts.{ChangesItsWorker, HaveSameLanes, face_of, IsSoundPart, IsFaceKept, part_state, role_of_part}
+use Rattle.thread_parts.specs.Parts.{ChangesItsWorker, HaveSameLanes, face_of, IsSoundPart, IsFaceKept, part_state, role_of_part, terms_for}
 use Rattle.thread_parts.specs.Steps.{SendByRing, DeliverByRing, WithPurse, IsBarred}
 use Rattle.thread_parts.specs.Parts.{fresh_allowance, begun_with}
 use Rattle.std.specs.Vec.{with_item}
@@ -84,20 +86,29 @@ module _ {S C D E K G : Type 0} (owner_of : S → ℕ → BoardModel → ℕ) (n
     guided_after worker stays =
         subst (λ (x : ContextModel S). StaysGuided x part.worker.lists worker.lists) lent stays part.job.now.start (guide_of (task_in part.job.now)) holds.guided
 
+    -- and this is the search of the part
+    pub lent_terms : terms_of context ≡ terms_for n part
+    lent_terms = ap terms_of lent ∙ (λ t. record { rule = part.job.now.rule; tables = part.job.now.tables; owners = part.owners.now; workers = (all ∙ unsent_count) t })
+
   -- a part that has another worker, which keeps what it should
   pub with_kept : (worker : Worker C D E K G) → Keeps n (role_of_part owner_of n part) (part_with_worker (part_state part) (state_of worker)) → IsGuided (task_in part.job.now) (guide_of (task_in part.job.now)) worker.lists → ChangesItsWorker owner_of n part (record part { worker = worker })
-  with_kept worker keeps guided = record { rest = refl; holds = record { role = holds.role; keeps = keeps; guided = guided }; kept = refl }
+  with_kept worker keeps guided = record { rest = refl; holds = record { role = holds.role; keeps = keeps; guided = guided; found = holds.found }; kept = refl }
+
+  -- and one that has found more ahead
+  pub with_found : (worker : Worker C D E K G) (ahead : Ahead) → Keeps n (role_of_part owner_of n part) (part_with_worker (part_state part) (state_of worker)) → IsGuided (task_in part.job.now) (guide_of (task_in part.job.now)) worker.lists → AreFoundAhead owner_of (terms_for n part) ahead → ChangesItsWorker owner_of n part (record part { worker = worker; ahead = ahead })
+  with_found worker ahead keeps guided found = record { rest = refl; holds = record { role = holds.role; keeps = keeps; guided = guided; found = found }; kept = refl }
 
   -- lists that are the same are guided too
   pub same_guided : (worker : Worker C D E K G) → worker.lists ≡ part.worker.lists → IsGuided (task_in part.job.now) (guide_of (task_in part.job.now)) worker.lists
   same_guided worker same = subst (λ (lists : SearchListsModel). IsGuided (task_in part.job.now) (guide_of (task_in part.job.now)) lists) (sym same) holds.guided
 
   -- a part with another worker and other ends, which keeps what it should, holds, where the worker's lists are the same
-  pub holds_after : (part' : Part S C D E K G) → role_of_part owner_of n part' ≡ role_of_part owner_of n part → part'.job.now ≡ part.job.now → Keeps n (role_of_part owner_of n part) (part_state part') → part'.worker.lists ≡ part.worker.lists → IsSoundPart owner_of n part'
-  holds_after part' same job keeps lists = record {
+  pub holds_after : (part' : Part S C D E K G) → role_of_part owner_of n part' ≡ role_of_part owner_of n part → part'.job.now ≡ part.job.now → Keeps n (role_of_part owner_of n part) (part_state part') → part'.worker.lists ≡ part.worker.lists → AreFoundAhead owner_of (terms_for n part') part'.ahead → IsSoundPart owner_of n part'
+  holds_after part' same job keeps lists found = record {
     role = subst (IsRole n) (sym same) holds.role;
     keeps = subst (λ (role : Role). Keeps n role (part_state part')) (sym same) keeps;
     guided = subst (λ (x : JobModel × SearchListsModel). IsGuided (task_in x.0) (guide_of (task_in x.0)) x.1) (λ t. (sym job t, sym lists t)) holds.guided;
+    found = found;
   }
 
 -- ---- the steps of a part, as its laws have them: the last item held
@@ -214,13 +225,15 @@ pub opens : {S C D E K G : Type 0} (owner_of : S → ℕ → BoardModel → ℕ)
     → (owner_of part.owners.now n part.job.now.start ≡ part.me → (via : Move) × (state_of part.worker ≡ begun_with purse (first_worker n (task_in part.job.now) via)))
     → (owner_of part.owners.now n part.job.now.start ≢ part.me → state_of part.worker ≡ begun_with purse (idle_worker n))
     → IsGuided (task_in part.job.now) (guide_of (task_in part.job.now)) part.worker.lists
+    → AreFoundAhead owner_of (terms_for n part) part.ahead
     → IsSoundPart owner_of workers part
-opens owner_of are_workers part n workers purse count law task few there sent received some first idle guided =
+opens owner_of are_workers part n workers purse count law task few there sent received some first idle guided found =
     let role = is_role owner_of are_workers part.owners.now (task_in part.job.now) n part.me task few there in
     subst (λ (k : ℕ). IsSoundPart owner_of k part) count (record {
       role = role;
       keeps = begins owner_of part.owners.now (task_in part.job.now) n part.me purse (part_state part) law role sent received some first idle;
       guided = guided;
+      found = found;
     })
 
 -- ---- What a part sees of a ring, and what a step on one end makes of a list of ends.

@@ -5,6 +5,8 @@ use Rattle.rings.specs.Rings.{Ring, out_rings, in_rings, sent_lanes, received_la
 use Rattle.thread_model.specs.Changes.{part_with_worker}
 use Rattle.thread_model.specs.Parts.{PartState, IsRole, Keeps}
 use Rattle.world_model.specs.Workers.{Role, WorkerState}
+use Rattle.offers.specs.Terms.{TermsModel}
+use Rattle.worker_core.specs.Ahead.{AreFoundAhead}
 use Rattle.worker_core.specs.Expanding.{role_by}
 use Rattle.worker_core.specs.Roles.{IsGuided, guide_of}
 use Rattle.worker_core.specs.Workers.{state_of}
@@ -44,11 +46,17 @@ module _ {S C D E K G : Type 0} where
   abbrev pub HaveSameLanes : Part S C D E K G → Part S C D E K G → Type 0
   HaveSameLanes part part' = (sent_lanes part'.outs.items ≡ sent_lanes part.outs.items) × (received_lanes part'.ins.items ≡ received_lanes part.ins.items)
 
-  -- What a part of n keeps, whatever the others do. Its worker's lists are guided to the goal.
+  -- the search of a part of n, in which its worker's moves are offered
+  abbrev pub terms_for : ℕ → Part S C D E K G → TermsModel S
+  terms_for n part = record { rule = part.job.now.rule; tables = part.job.now.tables; owners = part.owners.now; workers = n }
+
+  -- What a part of n keeps, whatever the others do. Its worker's lists are guided to the goal, and what was found ahead is
+  -- what moves offer in its search.
   pub record IsSoundPart (owner_of : S → ℕ → BoardModel → ℕ) (n : ℕ) (part : Part S C D E K G) : Type 0 where
     pub role : IsRole n (role_of_part owner_of n part)
     pub keeps : Keeps n (role_of_part owner_of n part) (part_state part)
     pub guided : IsGuided (task_in part.job.now) (guide_of (task_in part.job.now)) part.worker.lists
+    pub found : AreFoundAhead owner_of (terms_for n part) part.ahead
 
   -- a part of n has its face still, and keeps what it kept
   pub record KeepsPart (owner_of : S → ℕ → BoardModel → ℕ) (n : ℕ) (old new : Part S C D E K G) : Type 0 where

@@ -21,8 +21,8 @@ use rings::Ends;
 use search_keys::KeyedBoard;
 use std::alloc::Global;
 use thread_model::laws::openings_are_kept;
-use worker_core::Worker;
 use worker_core::laws::tasks_have_guides;
+use worker_core::{Ahead, Worker};
 use world_model::Item;
 
 /// What a worker begins with: its part of the credit, and an allowance by which nothing was granted
@@ -61,6 +61,7 @@ pub fn open_part<'a, S: Spread, C: Tokens>(
         owners: search.owners,
         me,
         worker,
+        ahead: Ahead::new::<S>(alloc),
         outs,
         ins,
     }))

@@ -29,7 +29,8 @@ impl<'a, S: Spread, C: Tokens> Part<'a, S, C> {
         steps_are_kept();
         let workers = self.worker.workers();
         let context = self.job.context(self.me, workers, self.owners);
-        self.worker.expand(alloc, &context, Successors::Onward)
+        self.worker
+            .expand(alloc, &context, &mut self.ahead, Successors::Onward)
     }
 
     /// Takes the last held item out: drops it where it is foreign, and else relaxes its board.

@@ -4,7 +4,7 @@ use hda_run::Job;
 use message_ledger::Counting;
 use owners::Spread;
 use rings::{Receiver, Sender};
-use worker_core::Worker;
+use worker_core::{Ahead, Worker};
 
 /// A worker, and its ends of the rings to and from each worker.
 #[derive(Drop)]
@@ -14,6 +14,7 @@ pub struct Part<'a, S: Spread, C: Counting> {
     /// Which worker it is.
     pub me: usize,
     pub worker: Worker<C>,
+    pub ahead: Ahead,
     /// For each worker the ring to it.
     pub outs: Vec<Sender<C>>,
     /// For each worker the ring from it.

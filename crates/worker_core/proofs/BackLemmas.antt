@@ -1,10 +1,11 @@
 -- The board that is expanded: its move back, which may be left out, what its other moves offer, and the room that these need.
-use Rattle.std.proofs.Common.{true, false, ◌≡◌, ◌≢◌, ℕ, ◌+◌, ◌<◌, ◌≤◌, [], ◌∷◌, Option, Some, None, refl, sym, ap, ◌∙◌, subst, inl, inr, ⊎_elim, arith, ◌⊎◌, zero, suc, Bool, eqb, cond, List, ◌++◌, length, get_or, set, ◌-◌}
+use Rattle.std.proofs.Common.{true, false, ◌≡◌, ◌≢◌, ℕ, ◌+◌, ◌<◌, ◌≤◌, [], ◌∷◌, Option, Some, None, refl, sym, ap, ◌∙◌, subst, inl, inr, ⊎_elim, arith, ◌⊎◌, zero, suc, Bool, eqb, cond, List, ◌++◌, length, get_or, set}
 use Rattle.std.specs.Prelude.{⊤, IfSome, filter_map, fold, option_map, Any, slice_get, unwrap_or}
 use Rattle.std.specs.FinMap as map
 use Rattle.std.proofs.lemmas.Bool.{cases_Bool, cases_eq, cond-true, cond-false, eq-eqb, le-ltb, ne_eqb, cases_lt, eqb-true, eqb-false}
-use Rattle.std.proofs.lemmas.List.{length-set}
-use Rattle.std.proofs.lemmas.Option.{slice_get-get_or, get_or_from_slice_get, slice_get_read, unwrap_or-slice_get}
+use Rattle.std.proofs.lemmas.List.{length-set, get_or-set_same}
+use Rattle.std.proofs.lemmas.List.Elements.{All-append}
+use Rattle.std.proofs.lemmas.Option.{slice_get-get_or, get_or_from_slice_get, slice_get_read, slice_get_within, unwrap_or-slice_get}
 use Rattle.board.specs.declared.moves.Move.{Move}
 use Rattle.board.specs.declared.moves.Move.TheVariants.{U, L, R, D}
 use Rattle.board.specs.Equality.{move_eq, moves_Decide}
@@ -35,7 +36,7 @@ use Rattle.open_buckets.specs.declared.open.TheConstants.{GREATEST_F}
 use Rattle.closed_table.specs.Tables.{ClosedModel}
 use Rattle.search_lists.specs.Lists.{SearchListsModel, HasMoreRoom}
 use Rattle.search_lists.specs.declared.lists.Next.{Next}
-use Rattle.search_lists.specs.Orders.{Guide, IsInOrder, IsLeastOpen}
+use Rattle.search_lists.specs.Orders.{Guide, IsInOrder, IsLeastOpen, IsWaiting}
 use Rattle.search_lists.proofs.OrderLemmas.{order_with_room}
 use Rattle.offers.specs.Offers.{item_by, Offers, IsOffered, AreOffered, OfEach, IsWithin}
 use Rattle.offers.specs.declared.offer.Offer.{Offer}
@@ -43,6 +44,10 @@ use Rattle.offers.specs.Room.{goes, go, HasRoom}
 use Rattle.worker_core.specs.Expanding.{all_taken, taken, role_by, AddsUpBy, left_out_by, ExpandStepFor, OnwardStepsAloneAreWhole}
 use Rattle.worker_core.specs.declared.expanding.Successors.{Successors}
 use Rattle.worker_core.specs.declared.expanding.Successors.TheVariants.{All, Onward}
+use Rattle.offers.specs.Terms.{TermsModel}
+use Rattle.std.specs.List as list
+use Rattle.worker_core.specs.Ahead.{AddsUpAs, AreOffersOf, IsFoundAhead, IsOf}
+use Rattle.worker_core.specs.declared.ahead.Found.{Found}
 use Rattle.worker_core.specs.Contexts.{ContextModel, role_from, task_from}
 use Rattle.worker_core.specs.Roles.{WereReached, IsGuided}
 use Rattle.worker_core.proofs.ExpandLemmas.{in_four, one_first, is_next, all_add, if_some, put_there, put_elsewhere, guided_same, restarted}
@@ -334,22 +339,62 @@ cost_low guide closed next limit best first below is =
     at_most None = omega arith
     at_most (Some cost) = omega arith
 
--- what its cost leaves of its cost plus sum is its sum
-pub sum_there : (task : Task) (guide : Guide) (lists : SearchListsModel) → IsGuided task guide lists → (next : Next) → IsLeastOpen guide lists.closed next → (b : BoardModel) (grid : ShapeModel) → grid ≡ task.goal.grid → HasSearchKey grid next.key b → next.f - next.cost ≡ task.sum b
-sum_there task guide lists is next first b grid sides has =
-    let sum = is.guides.sums b (has.board, has.sides ∙ sides) in
-    let key : guide.sum (search_key b) ≡ guide.sum next.key = ap guide.sum has.packed in
-    omega (arith, first.adds, sum, key)
+-- what waits adds up, by the sum of its board
+pub adds_up : {S : Type 0} (context : ContextModel S) (start : BoardModel) (guide : Guide) (lists : SearchListsModel) → IsGuided (task_from start context) guide lists → (next : Next) → IsWaiting lists next → next.f ≤ GREATEST_EXPANDED_COST → AddsUpAs context next
+adds_up context start guide lists is next waits low =
+    let at = is.boards next.key waits.known.0 waits.known.1 in
+    let adds = is.order.adds next.f next.place next.cost waits.waits in
+    let same : Some adds.0 ≡ Some next.key = sym adds.1 ∙ waits.place in
+    let key : adds.0 ≡ search_key at.0 = (let k : adds.0 ≡ next.key = cc in k) ∙ sym at.2 in
+    record {
+      board = at.0;
+      has = record { board = at.1.0; sides = at.1.1; packed = at.2 };
+      adds = adds.3 ∙ ap (λ (k : ℕ). next.cost + k) (ap guide.sum key ∙ is.guides.sums at.0 at.1);
+      low = low;
+    }
 
--- and no more than a board costs that is expanded
-pub sum_low : (next : Next) (limit : ℕ) (best : Option ℕ) → next.f < limit → limit ≡ limit_of best → next.f - next.cost ≤ GREATEST_EXPANDED_COST
-sum_low next limit best below is =
+-- and what is below the limit is low enough to be expanded
+pub f_low : (next : Next) (limit : ℕ) (best : Option ℕ) → next.f < limit → limit ≡ limit_of best → next.f ≤ GREATEST_EXPANDED_COST
+f_low next limit best below is =
     let most = at_most best in
     omega (arith, below, is, most)
   where
     at_most : (best : Option ℕ) → limit_of best ≤ GREATEST_EXPANDED_COST + 1
     at_most None = omega arith
     at_most (Some cost) = omega arith
+
+-- what was found for one board is what the moves from it offer
+pub offers_of_it : {S : Type 0} (owner_of : S → ℕ → BoardModel → ℕ) (terms : TermsModel S) (found : Found) (key cost : ℕ) (left_out : Option Move) → IsFoundAhead owner_of terms found → IsOf key cost left_out found → (offers : Offers) → offers ≡ found.offers → AreOffersOf owner_of terms key cost left_out offers
+offers_of_it owner_of terms found key cost left_out is of offers same =
+    subst (λ (x : ℕ × (ℕ × (Option Move × Offers))). AreOffersOf owner_of terms x.0 x.1.0 x.1.1.0 x.1.1.1) (λ t. (of.key_is t, (of.cost_is t, (of.left_out_is t, sym same t)))) is
+
+-- what is read in a batch was found
+pub found_at : {S : Type 0} (owner_of : S → ℕ → BoardModel → ℕ) (terms : TermsModel S) (batch : List Found) (place : ℕ) (found : Found) → list.All (IsFoundAhead owner_of terms) batch → slice_get batch place ≡ Some found → IsFoundAhead owner_of terms found
+found_at owner_of terms batch place found all is =
+    subst (IsFoundAhead owner_of terms) (get_or_from_slice_get batch place found found is) (all place found (slice_get_within batch place found is))
+
+-- so this is offered where it was found for the board
+pub found_of : {S : Type 0} (owner_of : S → ℕ → BoardModel → ℕ) (terms : TermsModel S) (batch : List Found) (place key cost : ℕ) (left_out : Option Move) → list.All (IsFoundAhead owner_of terms) batch → (found : Found) × (slice_get batch place ≡ Some found) × IsOf key cost left_out found → (offers : Offers) → (found : Found) × (slice_get batch place ≡ Some found) × (offers ≡ found.offers) → AreOffersOf owner_of terms key cost left_out offers
+found_of owner_of terms batch place key cost left_out all it offers at =
+    let same : Some it.0 ≡ Some at.0 = sym it.1 ∙ at.1 in
+    let is : it.0 ≡ at.0 = cc in
+    offers_of_it owner_of terms at.0 key cost left_out (found_at owner_of terms batch place at.0 all at.1) (subst (IsOf key cost left_out) is it.2) offers at.2
+
+-- what is read where something was written is that
+pub set_there : (xs : List Found) (i : ℕ) (v x : Found) → slice_get (set xs i v) i ≡ Some x → x ≡ v
+set_there xs i v x at =
+    let inner = slice_get_within (set xs i v) i x at in
+    let same = length-set xs i v in
+    let lt : i < length xs = omega (arith, inner, same) in
+    sym (get_or_from_slice_get (set xs i v) i x v at) ∙ get_or-set_same xs i v v lt
+
+-- what all have, and one more, all of these have
+pub all_pushed : {X : Type 0} (P : X → Type 0) (xs ys : List X) (x : X) → list.All P xs → P x → ys ≡ xs ++ x ∷ [] → list.All P ys
+all_pushed P xs ys x all one is = subst (list.All P) (sym is) (All-append P xs (x ∷ []) all (single one))
+  where
+    single : P x → list.All P (x ∷ [])
+    single has zero d within = has
+    single has (suc k) d within = absurd (omega (arith, within))
 
 -- so what is offered can wait
 pub all_low : (grid : ShapeModel) (cost n : ℕ) (offers : Offers) → cost ≤ GREATEST_EXPANDED_COST → OfEach (IsWithin grid cost n) offers → OfEach (λ offer. offer.f ≤ GREATEST_F) offers

@@ -5,4 +5,5 @@ pub mod Roles
 pub mod Expanding
 pub mod Settling
 pub mod Contexts
+pub mod Ahead
 pub mod Serving

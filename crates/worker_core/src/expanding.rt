@@ -17,6 +17,7 @@ ghost use Rattle.world_model.specs.declared.parts.Known.{Known};
 ghost use Rattle.world_model.specs.Expansions.{expansion_by, moves_but};
 ghost use Rattle.world_model.specs.Turns.{turn, refusal_in};
 ghost use Rattle.world_model.specs.Workers.{Role, KnowsAs};
+ghost use Rattle.worker_core.specs.Ahead.{AreFoundAhead, terms_of};
 ghost use Rattle.worker_core.specs.Contexts.{role_from};
 ghost use Rattle.worker_core.specs.Expanding.{IsReady, stock, AddsUpBy, all_taken, in_turn};
 ghost use Rattle.worker_core.specs.Expanding.{left_out_by, ExpandStepFor, HasPlaces, HasAllPlaces};
@@ -26,14 +27,14 @@ ghost use Rattle.worker_core.specs.Roles.{IsGuided};
 ghost use Rattle.worker_core.specs.Serving.{Serves, KeepsServing};
 ghost use Rattle.worker_core.specs.Workers.{IfMemoryRefused, state_of, packets_of};
 
+use crate::ahead::Ahead;
 use crate::context::Context;
 use crate::worker::Worker;
 use board::Move;
 use memory::OutOfMemory;
 use message_ledger::{Allowance, Counting};
-use offers::{Offer, Origin, Terms, has_room, no_offers, offers_of};
+use offers::{Offer, has_room};
 use owners::Spread;
-use search_keys::KeyedBoard;
 use search_lists::{Next, SearchLists};
 use std::alloc::Global;
 use successor_sums::{ByMoves, MOVES};
@@ -49,9 +50,6 @@ pub enum Successors {
     Onward,
 }
 
-// What is known of fewer boards lies in the processor's caches: to read ahead gains nothing there.
-const BOARDS_IN_CACHE: usize = 1 << 12;
-
 impl<C: Counting> Worker<C> {
     /// Expands a board of least cost plus sum: relaxes the successors that this worker owns, and
     /// puts the others into the packets for their owners. Refusals: S1 no board may be expanded
@@ -61,9 +59,11 @@ impl<C: Counting> Worker<C> {
         &mut self,
         alloc: Global,
         context: &Context<'_, S>,
+        ahead: &mut Ahead,
         successors: Successors,
     ) -> Result<(), Refusal>
-        requires { Serves context.now self.old }
+        requires serves { Serves context.now self.old }
+        requires ahead { AreFoundAhead S.owner_of (terms_of context.now) ahead.old }
         ensures step { (start : BoardModel)
             → ExpandStepFor successors (role_from S.owner_of start context.now)
             (turn (state_of self.old) (refusal_in result) (state_of self.new)) }
@@ -71,6 +71,7 @@ impl<C: Counting> Worker<C> {
             → LacksPlacesToExpand successors (role_from S.owner_of start context.now)
             (state_of self.old) self.old.lists) }
         ensures keeps { KeepsServing context.now self.old self.new }
+        ensures ahead { AreFoundAhead S.owner_of (terms_of context.now) ahead.new }
     {
         let Some(next) = self.lists.next(self.best.limit()) else {
             return Err(Refusal::NothingBelowLimit);
@@ -78,33 +79,15 @@ impl<C: Counting> Worker<C> {
         if self.allowance.left() == 0 {
             return Err(Refusal::NoAllowance);
         }
-        let board = KeyedBoard::of_key(context.goal.shape(), next.key);
-        let origin = Origin {
-            board: &board,
-            cost: next.cost,
-            sum: next.f - next.cost,
-        };
-        let terms = Terms {
-            weights: context.weights,
-            bound: context.bound,
-            owners: context.owners,
-            workers: context.workers,
-        };
-        let mut offers = no_offers();
-        offers_of(
-            &origin,
-            &terms,
-            move_left_out(next, successors),
-            &mut offers,
-        );
-        if !has_room(&self.unsent, context.me, &offers) {
+        let place = ahead.find(&mut self.lists, context, next, successors);
+        let offers = ahead.offers(place);
+        if !has_room(&self.unsent, context.me, offers) {
             return Err(Refusal::NoRoom);
         }
-        if let Err(refused) = make_places(&mut self.lists, alloc, context.me, &offers) {
+        if let Err(refused) = make_places(&mut self.lists, alloc, context.me, offers) {
             return Err(Refusal::Memory(refused));
         }
-        read_ahead(&mut self.lists, context.me, &offers);
-        self.expand_next(context, next, &offers);
+        self.expand_next(context, next, offers);
         Ok(())
     }
 
@@ -162,7 +145,7 @@ impl<C: Counting> Worker<C> {
 
 // The move from a board that is left out: the one back, where that is asked for and the cost of
 // the board is above 0.
-fn move_left_out(next: Next, successors: Successors) -> Option<Move>
+pub(crate) fn move_left_out(next: Next, successors: Successors) -> Option<Move>
     ensures { (known : Known) → known.cost ≡ next.cost → known.via ≡ next.via
         → result ≡ left_out_by successors known }
 {
@@ -231,20 +214,4 @@ fn make_places_at(
         return Ok(());
     }
     lists.reserve_places(alloc, offer.f, MOVES)
-}
-
-// Reads ahead what is read of the boards that this worker owns, so that the reads of memory
-// overlap.
-fn read_ahead(lists: &mut SearchLists, me: usize, offers: &ByMoves<Offer>)
-    ensures { lists.new ≡ lists.old }
-{
-    if lists.len() < BOARDS_IN_CACHE {
-        return;
-    }
-    'offers: for place in 0..offers.len() {
-        let (_, offer) = offers.entry(place);
-        if offer.owner == me {
-            lists.read_ahead(offer.key);
-        }
-    }
 }

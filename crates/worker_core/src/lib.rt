@@ -18,6 +18,9 @@
 //!   No world has one.
 //! - `expand` asks for places for four boards, and four at the f of each own successor, since
 //!   several may have the same.
+//! - `expand` is lent an `Ahead`: what the moves of boards that take turns offer. It is found for
+//!   all of them at once, so that the reads of memory for one overlap with those for another.
+//!   `AreFoundAhead` says that it is of the search. Where memory is refused for it, there is none.
 //! - `LaneOut` and `LaneIn` are the ends of a lane. `IsAtSender` and `IsAtReceiver` are what a
 //!   worker may conclude from an answer. `Queue` has both ends.
 //! - The table's buckets are read ahead for a packet taken in. A board's sum is made only where its
@@ -28,6 +31,7 @@
 //!   `specs/Lanes.antt`, `src/lanes.rt`.
 #![tactic(auto)]
 
+mod ahead;
 mod book_steps;
 mod closing;
 mod context;
@@ -41,6 +45,7 @@ mod settling;
 mod taking;
 mod worker;
 
+pub use ahead::Ahead;
 pub use context::Context;
 pub use expanding::Successors;
 pub use goal::Goal;

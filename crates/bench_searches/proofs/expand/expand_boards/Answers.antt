@@ -10,4 +10,5 @@ boards-preserved c =
         guided = (serves.guided.0, serves.guided.1, keeps.guided serves.guided.0 serves.guided.1 serves.guided.2);
       },
       keeps.granted ∙ c.refill.ensures.counted,
+      c.expand.ensures.ahead,
     )

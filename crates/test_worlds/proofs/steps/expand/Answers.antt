@@ -3,8 +3,8 @@ use Rattle.worker_core.specs.Contexts.{ContextModel}
 use Rattle.worker_core.specs.Serving.{Serves, StaysGuided}
 use Rattle.test_worlds.proofs.steps.expand.Goals as goal
 
-pub expand-requires-after_bounds : goal.expand-requires-after_bounds
-expand-requires-after_bounds g c κs within =
+pub expand-requires-clause-serves : goal.expand-requires-clause-serves
+expand-requires-clause-serves g c κs within =
     let led = c.requires.led in
     subst (λ (x : ContextModel g.row.S.Denot). Serves x c.args.worker.now) (sym c.context_of-context.ensures) (record { workers = search rules; guided = led })
 

@@ -10,7 +10,7 @@ returns-clause-given g c = subst (λ (parts : Parts g.row.S.Denot). g.A.Reading.
 pub returns-clause-answers : goal.returns-clause-answers
 returns-clause-answers g c =
     let parts = c.self.inside.parts in
-    let kept = c.self.invariant in
+    let kept = c.self.invariant.lawful in
     let quiet = c.quiet_is_true.ensures.quiet (world_of g.S.Spread.owner_of parts) kept.shaped kept.credited in
     subst (λ (parts : Parts g.row.S.Denot). g.A.Reading.answers (task_in parts.job) c.read_parts.result) c.self.view_is
     (c.keep_laws.ensures.answers (world_of g.S.Spread.owner_of parts) c.read_parts.result kept.shaped kept.sound quiet c.bound.ensures.lower c.read_parts.ensures)

@@ -40,7 +40,7 @@ returns-clause-part g c =
       holds = holds_after owner_of n old c.requires.holds new refl refl (elim (answered c.deliver.result c.deliver.ensures.given c.deliver.ensures.refused) [
         | inl has ↦ c.steps_are_kept.ensures.receive n from (role_of_part owner_of n old) (part_state old) (part_state new) c.requires.holds.role c.requires.there c.requires.holds.keeps (receives old from worker lane c.deliver.new.lane here there has)
         | inr same ↦ subst (Keeps n (role_of_part owner_of n old)) (sym (none_received old from worker lane c.deliver.new.lane here same.0 same.1)) c.requires.holds.keeps
-      ]) c.deliver.ensures.lists;
+      ]) c.deliver.ensures.lists c.requires.holds.found;
       kept = in_kept c.args.self.now c.args.from c.deliver.new.self c.index_mut-lane.result.now c.deliver.new.lane c.index_mut-lane.ensures.value ring;
     }
 

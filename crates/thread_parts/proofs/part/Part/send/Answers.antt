@@ -40,6 +40,6 @@ returns-clause-part g c =
       holds = holds_after owner_of n old c.requires.holds new refl refl (elim (answered c.send.result c.send.ensures.sent c.send.ensures.refused) [
         | inl has ↦ c.steps_are_kept.ensures.send n to (role_of_part owner_of n old) (part_state old) (part_state new) c.requires.holds.role c.requires.there c.requires.holds.keeps (sends old to worker lane c.send.new.lane here there has)
         | inr same ↦ subst (Keeps n (role_of_part owner_of n old)) (sym (none_sent old to worker lane c.send.new.lane here same.0 same.1)) c.requires.holds.keeps
-      ]) c.send.ensures.lists;
+      ]) c.send.ensures.lists c.requires.holds.found;
       kept = out_kept c.args.self.now c.args.to c.send.new.self c.index_mut-lane.result.now c.send.new.lane c.index_mut-lane.ensures.value ring;
     }

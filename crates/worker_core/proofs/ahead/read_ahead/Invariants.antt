@@ -1,5 +1,5 @@
 use Rattle.std.proofs.Common.{◌≡◌}
-use Rattle.worker_core.proofs.expanding.read_ahead.Given as goal
+use Rattle.worker_core.proofs.ahead.read_ahead.Given as goal
 
 abbrev pub invariant-offers : goal.invariant-offers
 invariant-offers l = l.lists ≡ l.fn.lists
