@@ -218,3 +218,13 @@ CreditStaysLow =
     → (w.book.credit ≤ 2 ^ 63 + CREDIT_DRAWN)
     × ((i : ℕ) (worker : WorkerState) → IsWorker w i worker → worker.purse + 1 < 2 ^ 64)
     × ((i j : ℕ) (w' : WorldState) → ¬ Next (Deliver i j) (turn w (Some PurseFull) w'))
+
+-- In each world that a run reaches and that has not stopped some credit is left, in a purse or with a packet. So once there is none, the run
+-- has stopped.
+abbrev pub RunningWorldsHaveCredit : Type 0
+RunningWorldsHaveCredit =
+    (job : Job) (via : Move) (made : List (Step × Option Refusal)) (w : WorldState)
+    → IsJob job
+    → IsRun (opening job via) made w
+    → w.book.stop ≡ None
+    → (1 ≤ w.book.credit) × (1 ≤ purse_total w + packet_count w)
