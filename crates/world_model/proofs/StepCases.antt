@@ -296,7 +296,7 @@ none_open task worker none (suc m) b known lt at =
 no_floor : (task : Task) (worker : WorkerState) → ¬ ((floor : Option ℕ) → ¬ IsFloor task worker floor)
 no_floor task worker none = none None (λ f has. none_open task worker (λ b known next. none (Some (known.cost + task.sum b)) ((b, known, next.opens, refl), λ m other. let le = next.least other.0 other.1 other.2 in omega (arith, other.3))) (suc f) has.0 has.1 (omega (arith, has.3)) has.2)
 
-split_last : (xs : List Item) → ¬ (xs ≡ []) → (front : List Item) × (last : Item) × (xs ≡ front ++ last ∷ [])
+pub split_last : (xs : List Item) → ¬ (xs ≡ []) → (front : List Item) × (last : Item) × (xs ≡ front ++ last ∷ [])
 split_last [] some = absurd (some refl)
 split_last (x ∷ []) some = ([], x, refl)
 split_last (x ∷ y ∷ xs) some = let rest = split_last (y ∷ xs) (λ e. let n = ap length e in omega arith) in (x ∷ rest.0, rest.1, ap (λ ys. x ∷ ys) rest.2)
@@ -306,10 +306,10 @@ split_first [] some = absurd (some refl)
 split_first (packet ∷ rest) some = (packet, rest, refl)
 
 -- a step of this kind has an answer
-abbrev HasAnswer : {S : Type 0} → (Turn S Refusal → Type 0) → S → Type 0
+abbrev pub HasAnswer : {S : Type 0} → (Turn S Refusal → Type 0) → S → Type 0
 HasAnswer {S} StepOf before = ¬ ((answer : Option Refusal) (after : S) → ¬ StepOf (turn before answer after))
 
-expand_answers : (role : Role) (worker : WorkerState) → HasAnswer (ExpandStep role) worker
+pub expand_answers : (role : Role) (worker : WorkerState) → HasAnswer (ExpandStep role) worker
 expand_answers role worker none =
     let busy : ¬ HasNothingBelow role.task worker (limit_of worker.best) = λ h. none (Some NothingBelowLimit) worker (inl (h, (refl, refl))) in
     let left : ¬ (worker.allowance ≡ 0) = λ h. none (Some NoAllowance) worker (inr (busy, inl (h, (refl, refl)))) in
@@ -359,7 +359,7 @@ grant_answers role x none =
     let more : ¬ (x.book.granted ≡ x.book.limit) = λ h. none (Some NoAllowance) x (inr (runs, inr (busy, inr (spent, inl (h, (refl, refl)))))) in
     none None _ (inr (runs, inr (busy, inr (spent, inr (more, (refl, refl))))))
 
-rest_answers : (role : Role) (x : AtBook) → HasAnswer (RestStep role) x
+pub rest_answers : (role : Role) (x : AtBook) → HasAnswer (RestStep role) x
 rest_answers role x none =
     let runs : ¬ (x.book.stop ≢ None) = λ h. none (Some Stopped) x (inl (h, (refl, refl))) in
     let some : ¬ (x.worker.purse ≡ 0) = λ h. none (Some PurseEmpty) x (inr (runs, inl (h, (refl, refl)))) in

@@ -1,5 +1,5 @@
 -- The laws of steps: that each has one answer and leaves one world, and what it leaves alone.
-use Rattle.std.specs.Prelude.{◌≡◌, ◌≢◌, ◌↔◌, ◌⊎◌, ⊤, ℕ, ◌<◌, ◌≤◌, ◌+◌, true, List, [], ◌∷◌, ◌++◌, All, Contains, Option, Some, None, slice_get}
+use Rattle.std.specs.Prelude.{◌≡◌, ◌≢◌, ◌↔◌, ◌⊎◌, ⊤, ℕ, ◌<◌, ◌≤◌, ◌+◌, ◌^◌, true, List, [], ◌∷◌, ◌++◌, All, Contains, Option, Some, None, slice_get}
 use Rattle.memory.specs.declared.OutOfMemory.{OutOfMemory}
 use Rattle.board.specs.declared.moves.Move.{Move}
 use Rattle.board.specs.Weights.{WeightsModel}
@@ -8,6 +8,7 @@ use Rattle.board.specs.Boards.{IsBoard, BoardModel}
 use Rattle.world_model.specs.declared.parts.Item.{Item}
 use Rattle.world_model.specs.declared.parts.Known.{Known}
 use Rattle.world_model.specs.declared.steps.HaltCause.{HaltCause}
+use Rattle.world_model.specs.declared.steps.HaltCause.TheVariants.{Limit}
 use Rattle.world_model.specs.declared.steps.Refusal.{Refusal}
 use Rattle.world_model.specs.declared.steps.Refusal.TheVariants.{NoRoom, Memory}
 use Rattle.world_model.specs.declared.steps.Step.{Step}
@@ -20,7 +21,7 @@ use Rattle.world_model.specs.Books.{BookState}
 use Rattle.world_model.specs.WorkerSteps.{ExpandStep}
 use Rattle.world_model.specs.Worlds.{WorldState, IsWorker, IsLane, IsUnderWay, Knows}
 use Rattle.world_model.specs.Steps.{Next, IsRun}
-use Rattle.world_model.specs.Openings.{Job, opening}
+use Rattle.world_model.specs.Openings.{Job, IsJob, opening}
 use Rattle.world_model.specs.Shapes.{IsShaped}
 use Rattle.world_model.specs.Soundness.{IsCovered, IsSound}
 
@@ -227,3 +228,26 @@ pub record NothingIsForgotten : Type 0 where
       → (to : ℕ) (item : Item)
       → IsUnderWay it.before to item
       → IsCovered it.after item.board item.cost
+
+-- The step is due: it draws no credit, except where the worker has a packet to send and too little for it; and it halts the run for the limit
+-- alone.
+abbrev pub IsDue : WorldState → Step → Type 0
+IsDue w (Expand i) = ⊤
+IsDue w (Settle i) = ⊤
+IsDue w (Send i j) = ⊤
+IsDue w (Deliver i j) = ⊤
+IsDue w (Draw i) = (worker : WorkerState) × IsWorker w i worker × (worker.purse < 2) × ¬ All (λ packet. packet ≡ []) worker.unsent
+IsDue w (Announce i) = ⊤
+IsDue w (Grant i) = ⊤
+IsDue w (Rest i) = ⊤
+IsDue w (Halt i cause) = cause ≡ Limit
+
+-- No world that a run reaches is stuck: where it has not stopped, and its credit is at most 2^63, some step that is due is accepted.
+pub record NoWorldIsStuck : Type 0 where
+  pub goes_on :
+      (job : Job) (via : Move) (made : List (Step × Option Refusal)) (w : WorldState)
+      → IsJob job
+      → IsRun (opening job via) made w
+      → w.book.stop ≡ None
+      → w.book.credit ≤ 2 ^ 63
+      → ¬ ((step : Step) (w' : WorldState) → IsDue w step → ¬ Next step (turn w None w'))
