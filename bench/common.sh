@@ -77,14 +77,14 @@ run_python() {
     SCRIPT=bench/$name PYTHONPATH=bench python3 -B - "$@"
 }
 
-# The rest is for scripts that time a part of bench_searches, $part, beside the plain program of their own name.
+# The rest is for scripts that time a part of bench_searches, $part, beside the same part of bench/kernels.rs.
 
 proved() {
     "$program" "$part" "$@"
 }
 
 plain() {
-    "$made/$name" "$@"
+    "$made/kernels" "$part" "$@"
 }
 
 # Fails if the programs don't print the same for the same arguments.

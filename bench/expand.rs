@@ -8,7 +8,6 @@ use std::hash::{BuildHasherDefault, Hasher};
 use std::process::ExitCode;
 
 include!("groups.rs");
-include!("tables_of_groups.rs");
 
 const FACTOR: u128 = 0x9E37_79B9_7F4A_7C15_F39C_C060_5CED_C835;
 

@@ -14,7 +14,6 @@ use std::io::{self, BufWriter, Read, Write};
 use std::process::ExitCode;
 
 include!("groups.rs");
-include!("tables_of_groups.rs");
 
 const FACTOR: u64 = 0x9E37_79B9_7F4A_7C15;
 

@@ -12,7 +12,6 @@ use std::io::{self, BufWriter, Read, Write};
 use std::process::ExitCode;
 
 include!("groups.rs");
-include!("tables_of_groups.rs");
 
 /// How many tiles a group has.
 const SIZE: usize = 5;

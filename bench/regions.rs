@@ -1,5 +1,5 @@
 //! Pattern databases of the sliding-tile puzzle in plain safe Rust, built over regions of free cells, layer by layer where
-//! all weights are one: what the building of tables is measured against (`bench/tables`).
+//! all weights are one: what the building of tables is measured against (`bench/kernels tables`).
 //!
 //!     let frame = Frame::new(4, 4, 5);
 //!     let values = frame.values(&[1, 2, 3, 4, 5], &goal, &weights);

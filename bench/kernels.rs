@@ -1,16 +1,142 @@
-//! The offers of `bench_searches sums` in plain safe Rust, to time them beside it.
-
-// (the files that it includes have more than it uses)
-#![allow(dead_code)]
+//! Parts of `bench_searches` in plain safe Rust, to time those beside them: ranks, steps of the board, what moves offer,
+//! and tables. Tables are built by a search over views or, as fast as we can make it, over regions (`regions.rs`).
+//!
+//!     kernels rank|step|sums NUMBER..        with the numbers that bench_searches takes
+//!     kernels views|regions PART NUMBER..    with the part, one that makes tables, and the numbers that it takes
 
 use std::env;
 use std::process::ExitCode;
 use std::slice::Iter;
+use std::str::FromStr;
 
 include!("groups.rs");
 
 mod regions;
-use regions::{Frame, NO_VALUE};
+use regions::Frame;
+
+/// The next state of a linear congruential generator modulo 2^64 (Knuth's MMIX).
+fn next_state(state: u64) -> u64 {
+    state
+        .wrapping_mul(6364136223846793005)
+        .wrapping_add(1442695040888963407)
+}
+
+fn square(side: u8) -> Shape {
+    Shape { rows: side, cols: side }
+}
+
+// Ranks.
+
+/// The line of the sum of this many ranks.
+#[inline(never)]
+fn walk_ranks(group: &Group, ranks: u32) -> String {
+    let mut views = [group.unrank(0); 1024];
+    let mut state = 2;
+    for view in &mut views {
+        state = next_state(state);
+        *view = group.unrank((state % group.size as u64) as usize);
+    }
+    let mut sum = 0;
+    let mut state = 1;
+    for _ in 0..ranks {
+        state = next_state(state);
+        sum += group.rank(&views[(state >> 54) as usize]) as u64;
+    }
+    let size = group.size;
+    format!("size {size} ranks {ranks} sum {sum}")
+}
+
+fn rank(numbers: &[u32]) -> Option<()> {
+    let [side @ 2..=5, count @ 1..=9, ranks] = *numbers else {
+        return None;
+    };
+    let shape = square(side as u8);
+    let tiles: Vec<u8> = (1..=count as u8).collect();
+    if tiles.len() + 1 > shape.cells() {
+        return None;
+    }
+    println!("{}", walk_ranks(&Group::new(shape, &tiles), ranks));
+    Some(())
+}
+
+// Steps of the board.
+
+#[derive(Clone, Copy)]
+struct Board {
+    shape: Shape,
+    tiles: [u8; 25],
+}
+
+impl Board {
+    /// The blank in the upper left, and tile t on cell t.
+    fn goal(shape: Shape) -> Self {
+        let mut tiles = [0; 25];
+        for cell in 0..shape.cells() {
+            tiles[cell] = cell as u8;
+        }
+        Board { shape, tiles }
+    }
+
+    /// 5 bits a cell, cell 0 highest.
+    fn key(&self) -> u128 {
+        let tiles = &self.tiles[..self.shape.cells()];
+        tiles.iter().fold(0, |key, tile| key * 32 + *tile as u128)
+    }
+
+    /// The board after a move of the blank and the weight of the tile moved, or None at the edge.
+    fn step(&self, direction: Move, weights: &[u8; 25]) -> Option<(Board, u32)> {
+        let from = self.tiles.iter().position(|tile| *tile == 0)?;
+        let to = self.shape.neighbour(from, direction)?;
+        let tile = self.tiles[to];
+        let mut tiles = self.tiles;
+        tiles[from] = tile;
+        tiles[to] = 0;
+        let board = Board { tiles, ..*self };
+        Some((board, weights[tile as usize] as u32))
+    }
+}
+
+fn direction_of(state: u64) -> Move {
+    match state >> 62 {
+        0 => Move::U,
+        1 => Move::L,
+        2 => Move::R,
+        _ => Move::D,
+    }
+}
+
+/// The line of a walk of this many steps from the goal.
+#[inline(never)]
+fn walk_steps(shape: Shape, steps: u32) -> String {
+    let mut weights = [0; 25];
+    for tile in 1..shape.cells() {
+        weights[tile] = tile as u8;
+    }
+    let mut board = Board::goal(shape);
+    let mut accepted = 0u32;
+    let mut cost = 0u64;
+    let mut state = 1u64;
+    for _ in 0..steps {
+        state = next_state(state);
+        if let Some((next, weight)) = board.step(direction_of(state), &weights) {
+            board = next;
+            accepted += 1;
+            cost += weight as u64;
+        }
+    }
+    let key = board.key();
+    format!("steps {steps} accepted {accepted} cost {cost} key {key}")
+}
+
+fn step(numbers: &[u32]) -> Option<()> {
+    let [side @ 2..=5, steps] = *numbers else {
+        return None;
+    };
+    println!("{}", walk_steps(square(side as u8), steps));
+    Some(())
+}
+
+// What moves offer.
 
 /// The most slots of a table that is kept by slot.
 const MOST_SLOTS: usize = 1 << 25;
@@ -248,6 +374,7 @@ impl Search {
     }
 
     /// Takes what the moves from these boards offer `rounds` times.
+    #[inline(never)]
     fn offer_all<K: Key>(&self, drawn: &[Waiting<K>], rounds: u32) -> u64 {
         let mut check: u64 = 0;
         for _ in 0..rounds {
@@ -263,12 +390,6 @@ impl Search {
     }
 }
 
-fn next_state(state: u64) -> u64 {
-    state
-        .wrapping_mul(6364136223846793005)
-        .wrapping_add(1442695040888963407)
-}
-
 /// An offer as one number.
 fn folded<K: Key>(offer: &Offer<K>) -> u64 {
     offer.key.folded() ^ u64::from(offer.cost) << 32 ^ u64::from(offer.f)
@@ -281,15 +402,11 @@ fn check_offers<K: Key>(shape: Shape, groups: Vec<Group>, boards: u32, rounds: u
     search.offer_all(&drawn, rounds)
 }
 
-fn main() -> ExitCode {
-    let words: Option<Vec<u32>> = env::args().skip(1).map(|word| word.parse().ok()).collect();
-    let Some([side @ 2..=5, boards, rounds, counts @ ..]) = words.as_deref() else {
-        return ExitCode::from(2);
+fn sums(numbers: &[u32]) -> Option<()> {
+    let [side @ 2..=5, boards, rounds, counts @ ..] = numbers else {
+        return None;
     };
-    let shape = Shape {
-        rows: *side as u8,
-        cols: *side as u8,
-    };
+    let shape = square(*side as u8);
     let tiles: Vec<u8> = (1..shape.cells() as u8).collect();
     let mut left = tiles.as_slice();
     let mut groups = Vec::new();
@@ -304,5 +421,147 @@ fn main() -> ExitCode {
         check_offers::<u128>(shape, groups, *boards, *rounds)
     };
     println!("boards {boards} rounds {rounds} check {check}");
-    ExitCode::SUCCESS
+    Some(())
+}
+
+// Tables.
+
+/// The line that a table comes to.
+fn summary_of(values: &[u16]) -> String {
+    let mut highest = 0;
+    let mut sum: u64 = 0;
+    let mut check: u64 = 14695981039346656037;
+    for value in values {
+        if *value < NO_VALUE && *value > highest {
+            highest = *value;
+        }
+        sum = sum.wrapping_add(*value as u64);
+        check = (check ^ *value as u64).wrapping_mul(1099511628211);
+    }
+    let views = values.len();
+    format!("views {views} highest {highest} sum {sum} check {check}")
+}
+
+/// The weight of each tile: 1, its number, or drawn from 1 to 255.
+fn weights_of(cells: usize, word: u64) -> [u8; 25] {
+    let mut weights = [0; 25];
+    let mut state = word;
+    for tile in 1..cells {
+        state = next_state(state);
+        weights[tile] = match word {
+            0 => 1,
+            1 => tile as u8,
+            _ => ((state >> 33) % 255 + 1) as u8,
+        };
+    }
+    weights
+}
+
+/// The cell of each number on the goal: the usual one, or one that is drawn (Fisher, Yates).
+fn goal_of(cells: usize, word: u64) -> [u8; 25] {
+    if word == 0 {
+        return usual_goal();
+    }
+    let mut numbers = usual_goal();
+    let mut state = word;
+    for last in (1..cells).rev() {
+        state = next_state(state);
+        numbers.swap(last, (state >> 33) as usize % (last + 1));
+    }
+    let mut places = [0; 25];
+    for (cell, number) in numbers[..cells].iter().enumerate() {
+        places[*number as usize] = cell as u8;
+    }
+    places
+}
+
+/// The least value of the views that show the tiles on the same cells, for each placement of the tiles.
+fn fold(group: &Group, values: &[u16]) -> Vec<u16> {
+    let ways = values.len() / (group.shape.cells() - group.tiles().len());
+    let mut folded = vec![NO_VALUE; ways];
+    for (rank, value) in values.iter().enumerate() {
+        let view = group.unrank(rank);
+        let mut place = 0;
+        let mut seen: u32 = 0;
+        for (count, cell) in view.places[1..view.count as usize].iter().enumerate() {
+            let below = (seen & ((1 << cell) - 1)).count_ones() as usize;
+            place = place * (group.shape.cells() - count) + (*cell as usize - below);
+            seen |= 1 << cell;
+        }
+        folded[place] = folded[place].min(*value);
+    }
+    folded
+}
+
+/// Builds the tables of a part, and keeps them to the end.
+fn tables(is_over_views: bool, part: &str, numbers: &[u64]) -> Option<()> {
+    let [weights, goal, rows @ 2..=5, cols @ 2..=5, counts @ ..] = numbers else {
+        return None;
+    };
+    let shape = Shape {
+        rows: *rows as u8,
+        cols: *cols as u8,
+    };
+    let weights = weights_of(shape.cells(), *weights);
+    let goal = goal_of(shape.cells(), *goal);
+    let is_group = part.starts_with("group");
+    let tiles: Vec<u8> = if is_group {
+        counts.iter().map(|tile| *tile as u8).collect()
+    } else {
+        (1..shape.cells() as u8).collect()
+    };
+    let whole = [tiles.len() as u64];
+    let counts = if is_group { whole.as_slice() } else { counts };
+    let is_folded = part.ends_with("folded");
+    let is_read = !part.starts_with("built");
+    let mut left = tiles.as_slice();
+    let mut frames: Vec<(usize, Frame)> = Vec::new();
+    let mut tables = Vec::new();
+    for count in counts {
+        let (taken, rest) = left.split_at(*count as usize);
+        let values = if is_over_views {
+            let group = Group::new(shape, taken);
+            let values = build(&group, &goal, &weights);
+            if is_folded { fold(&group, &values) } else { values }
+        } else {
+            if frames.iter().all(|(size, _)| *size != taken.len()) {
+                frames.push((taken.len(), Frame::new(*rows as usize, *cols as usize, taken.len())));
+            }
+            let (_, frame) = frames.iter().find(|(size, _)| *size == taken.len()).unwrap();
+            let values = frame.values(taken, &goal, &weights);
+            if is_folded { frame.folded(&values) } else { frame.whole(&values) }
+        };
+        if is_read {
+            println!("{}", summary_of(&values));
+        }
+        tables.push(values);
+        left = rest;
+    }
+    Some(())
+}
+
+fn numbers<T: FromStr>(words: &[&str]) -> Option<Vec<T>> {
+    words.iter().map(|word| word.parse().ok()).collect()
+}
+
+fn run(words: &[&str]) -> Option<()> {
+    match words {
+        ["rank", rest @ ..] => rank(&numbers(rest)?),
+        ["step", rest @ ..] => step(&numbers(rest)?),
+        ["sums", rest @ ..] => sums(&numbers(rest)?),
+        [peer @ ("views" | "regions"), part, rest @ ..] => {
+            let mut numbers = numbers(rest)?;
+            if *part == "table" {
+                numbers.splice(0..0, [0, 0]);
+            }
+            tables(*peer == "views", part, &numbers)
+        }
+        _ => None,
+    }
+}
+
+fn main() -> ExitCode {
+    let words: Vec<String> = env::args().skip(1).collect();
+    let words: Vec<&str> = words.iter().map(String::as_str).collect();
+    run(&words).map_or(ExitCode::from(2), |()| ExitCode::SUCCESS)
 }
