@@ -3,8 +3,8 @@ edits of a copy of the tree; and runs in which an allocation is refused.
 
 It shares no code with the program or with tools/check_certificate.py.
 
-checks/refusals, checks/thread-refusals and checks/hostile refuse allocations. For the first two it also builds bench_refusals,
-as the first call of ./tilesolve builds that program, without its proof. rt try --fail-alloc takes most of a second for a run,
+checks/refusals and checks/hostile refuse allocations. For the first it also builds bench_refusals, as the first call of
+./tilesolve builds its program, without its proof. rt try --fail-alloc takes most of a second for a run,
 and can't run threads. Here a small library takes the place of the C library's allocations. BENCH_REFUSALS names a
 bench_refusals that is built already.
 """

@@ -3,6 +3,11 @@
 out/quick and out/proved hold a program each, beside a record of the toolchain's version, a checksum of the sources and
 one of the program. A program whose record doesn't fit counts for nothing. out/choice names the kind that was found
 last; ./tilesolve takes it as long as no file is newer.
+
+usage: python3 -B tools/programs.py             prints a checksum of the sources: call it before `rt ci`
+       python3 -B tools/programs.py CHECKSUM    keeps the program that `rt ci` proved and left in crates/tilesolve/out, if the
+                                                sources still have that checksum: call it after `rt ci` has ended with status
+                                                0, and never otherwise
 """
 import contextlib
 import fcntl
@@ -154,3 +159,20 @@ def end_in_order():
     for number in (signal.SIGTERM, signal.SIGHUP, signal.SIGINT):
         if signal.getsignal(number) != signal.SIG_IGN:
             signal.signal(number, lambda number, _: sys.exit(128 + number))
+
+
+def keep_proved(words):
+    """Prints a checksum of the sources, or keeps the program that was proved from the sources with a checksum."""
+    if len(words) > 1 or not all(re.fullmatch("[0-9a-f]{64}", word) for word in words):
+        sys.exit(__doc__)
+    if not words:
+        print(sources("proved"))
+        return
+    with locked():
+        if words[0] != sources("proved"):
+            fail("the sources changed meanwhile")
+        keep("proved", f"{ROOT}/crates/{PROGRAM}/out/{PROGRAM}", words[0])
+
+
+if __name__ == "__main__":
+    keep_proved(sys.argv[1:])

@@ -1,7 +1,7 @@
 //! Makes small calls that take memory, and prints for each what it answered: the whole right
 //! answer, or no more than it may answer where memory is refused. Each allocation of each call is
 //! refused in turn: by `checks/refusals` in the calls of the part `alone`, which start no threads,
-//! and by `checks/thread-refusals` in those of the part `threads`.
+//! and by `checks/refusals --threads` in those of the part `threads`.
 //!
 //!     bench_refusals                         makes each call once, those of a part under its name
 //!     bench_refusals PART                    makes each call of that part once
