@@ -76,7 +76,7 @@ fn push_file(
     push_all(text, b"</svg>\n")
 }
 
-// What comes behind the claim: the boards, and how the tiles slide.
+// The end of the file after the claim: the boards, and how the tiles slide.
 fn push_boards(
     text: &mut Vec<u8>,
     certificate: &Certificate,
