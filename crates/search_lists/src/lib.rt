@@ -6,7 +6,7 @@
 //! - `relax` puts news into the open list; `next` gives an open board of least f below a limit;
 //!   outdated entries go out at their turn.
 //! - Among entries of equal f the greatest g comes first: an f is sorted when it first becomes the
-//!   least and exceeds each before. No clause says so.
+//!   least and exceeds each before, and after `order_anew`. No clause says so.
 //! - Where many boards are known, up to `BATCH` entries of one f take turns. `upcoming` answers
 //!   those that come next, and no clause says which these are.
 //! - `reserve_boards` asks for 64 boards at once, and only if that is refused for those needed.

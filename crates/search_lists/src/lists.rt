@@ -72,7 +72,7 @@ struct Batch {
 pub struct SearchLists {
     closed: Closed,
     open: Open<u32>,
-    // The greatest f whose entries were put in order of cost.
+    // The greatest f whose entries were put in order of cost, or 0 where they are put in order anew.
     ordered: u32,
     // Whether a goal was met, which is worth a look then.
     goal_met: bool,
@@ -266,6 +266,14 @@ impl SearchLists {
         take_first(&mut self.open, first);
         self.closed.mark_expanded_at(next.place as usize);
         read_next(&mut self.closed, &self.open, next.f);
+    }
+
+    /// Lets `next` put the entries of the least f in order of cost again, also where they were in
+    /// order before. Nothing changes that contracts speak of.
+    pub fn order_anew(&mut self)
+        ensures { self.new ≡ self.old }
+    {
+        self.ordered = 0;
     }
 
     /// One of the boards that are taken together with the one that `next` answered last, by how many

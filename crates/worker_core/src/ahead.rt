@@ -101,6 +101,7 @@ impl Ahead {
             return None;
         }
         write_found(context, next, left_out, &mut self.batch[0]);
+        read_ahead(lists, context.me, &self.batch[0].offers);
         self.turn = 1;
         Some(0)
     }
@@ -219,12 +220,12 @@ fn write_upcoming<S: Spread>(
     count
 }
 
-// Reads ahead what is known of the boards that are offered in the first places, where this worker
-// owns them.
+// Reads ahead what is known of the boards that are offered in the first places but the very first,
+// where this worker owns them.
 fn read_all(batch: &[Found], count: usize, lists: &mut SearchLists, me: usize)
     ensures { lists.new ≡ lists.old }
 {
-    'places: for place in 0..count.min(batch.len()) {
+    'places: for place in 1..count.min(batch.len()) {
         read_ahead(lists, me, &batch[place].offers);
     }
 }

@@ -82,6 +82,14 @@ impl<C: Counting> Worker<C> {
         &self.lists
     }
 
+    /// Lets it expand the boards of its least f in order of cost again, those of the greatest cost
+    /// first. Nothing changes that contracts speak of.
+    pub fn order_anew(&mut self)
+        ensures { self.new ≡ self.old }
+    {
+        self.lists.order_anew();
+    }
+
     /// The items that it holds.
     pub fn held(&self) -> &[Item]
         ensures { result.now ≡ (state_of self.now).held }
