@@ -22,22 +22,29 @@ const YIELDING_TURNS: u32 = 8;
 // It sleeps no longer than this, so that no run depends on a waker.
 const SLEEP_MICROSECONDS: u64 = 100;
 
-/// Signs beside the lock of a book and beside the rings: whether the book has stopped, and which
-/// workers sleep. They prove nothing: a worker that finds the mark looks at the book, and one that
-/// is woken looks at its rings.
+/// The floor of a worker that has nothing to expand.
+pub(crate) const NO_FLOOR: u64 = u64::MAX;
+
+/// Signs beside the lock of a book and beside the rings: whether the book has stopped, which
+/// workers sleep, and how low their boards are. They prove nothing: a worker that finds the mark
+/// looks at the book, one that is woken looks at its rings, and one that waits for others goes on
+/// after a while.
 #[derive(Drop)]
 pub struct Signs {
     stopped: AtomicU64,
     // For each worker whether it sleeps.
     words: [AtomicU64; WORKER_LIMIT],
+    // For each worker its floor: the f below which it has nothing to expand, and was sent nothing.
+    floors: [AtomicU64; WORKER_LIMIT],
 }
 
 impl Signs {
-    /// The signs of a run that goes on, and whose workers are awake.
+    /// The signs of a run that goes on, whose workers are awake and have nothing to expand.
     pub fn new() -> Self {
         Signs {
             stopped: AtomicU64::new(0),
             words: array::from_fn(|_| AtomicU64::new(AWAKE)),
+            floors: array::from_fn(|_| AtomicU64::new(NO_FLOOR)),
         }
     }
 
@@ -63,6 +70,39 @@ impl Signs {
         if word.load(Ordering::SeqCst) == ASLEEP {
             word.store(AWAKE, Ordering::SeqCst);
             word.wake_one();
+        }
+    }
+
+    /// The floor that a worker has.
+    pub(crate) fn floor(&self, worker: usize) -> u64 {
+        let Some(floor) = self.floors.get(worker) else {
+            return NO_FLOOR;
+        };
+        floor.load(Ordering::SeqCst)
+    }
+
+    /// The least floor of all workers.
+    pub(crate) fn lowest_floor(&self) -> u64 {
+        let mut lowest = NO_FLOOR;
+        'floors: for floor in &self.floors {
+            lowest = lowest.min(floor.load(Ordering::SeqCst));
+        }
+        lowest
+    }
+
+    /// Gives a worker a floor.
+    pub(crate) fn set_floor(&self, worker: usize, floor: u64) {
+        let Some(word) = self.floors.get(worker) else {
+            return;
+        };
+        word.store(floor, Ordering::SeqCst);
+    }
+
+    /// Lowers a worker's floor to that of another worker, which sent it a packet.
+    pub(crate) fn lower_floor(&self, worker: usize, sender: usize) {
+        let floor = self.floor(sender);
+        if floor < self.floor(worker) {
+            self.set_floor(worker, floor);
         }
     }
 
