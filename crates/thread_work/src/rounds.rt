@@ -23,8 +23,11 @@ const PATIENT_TURNS: u32 = 32;
 // What is added to the lead where tables are folded.
 const FOLDED_LEAD: u64 = 4;
 
-// In so many rounds boards of one f are expanded before those of it are put in order again.
-const ROUNDS_TO_ORDER: u32 = 4;
+// In so many rounds in a row boards of one f are expanded before those of it are put in order
+// again, and before they are once more.
+const FEW_ROUNDS: u32 = 4;
+
+const MANY_ROUNDS: u32 = 64;
 
 // How a worker keeps pace with the others. What it expands while another one has boards of lower f
 // may cost more than the best plan, and then it is in vain.
@@ -32,8 +35,6 @@ const ROUNDS_TO_ORDER: u32 = 4;
 struct Pace {
     // By how much the f of what it expands may be above the least f of all workers.
     lead: u64,
-    // The greatest f of what it expanded.
-    highest: u64,
     // The f of what it expanded last, and in how many rounds in a row.
     f: u64,
     rounds: u32,
@@ -44,26 +45,24 @@ impl Pace {
     fn new(job: &Job<'_>) -> Self {
         Pace {
             lead: lead_in(job),
-            highest: 0,
             f: 0,
             rounds: 0,
         }
     }
 
-    // Whether boards of an f, which come next, are to be put in order again: they were begun before,
-    // but then others of lower f came, whose successors are among them.
+    // Whether boards of this f, which come next, are to be put in order again. They were when the
+    // first of them was expanded, but then others still had boards of lower f, whose successors came
+    // since.
     fn wants_order(&mut self, f: u64) -> bool {
         if f != self.f {
             self.f = f;
             self.rounds = 0;
         }
-        if self.highest < f {
-            // (they are put in order by themselves now)
-            self.highest = f;
-            self.rounds = ROUNDS_TO_ORDER;
+        if f == NO_FLOOR {
+            return false;
         }
         self.rounds = self.rounds.saturating_add(1);
-        self.rounds == ROUNDS_TO_ORDER
+        self.rounds == FEW_ROUNDS || self.rounds == MANY_ROUNDS
     }
 }
 
