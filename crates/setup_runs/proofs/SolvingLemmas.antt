@@ -13,6 +13,7 @@ use Rattle.hda_run.specs.Alone.{IsRunAlone, IsFoundAlone}
 use Rattle.hda_run.specs.WholeRuns.{EndsWholeRun, HasWholeRun}
 use Rattle.hda_run.specs.Jobs.{task_in}
 use Rattle.hda_run.proofs.LawLemmas.{one_class}
+use Rattle.world_model.specs.Credit.{expansion_count}
 use Rattle.world_model.specs.Openings.{Job}
 use Rattle.world_model.specs.Quiet.{IsKept}
 use Rattle.world_model.specs.Worlds.{WorldState}
@@ -29,6 +30,7 @@ use Rattle.thread_runs.specs.Solved.{IsFoundByWorkers, IsLeftToOne}
 use Rattle.setup_runs.specs.Ahead.{LacksMemory, IsTried, AreTried}
 use Rattle.setup_runs.specs.declared.ahead.Tried.{Tried}
 use Rattle.batch_runs.specs.declared.stats.Solved.{Solved}
+use Rattle.batch_runs.specs.declared.stats.Stats.{Stats}
 use Rattle.setup_runs.specs.Solving.{AnswersBoard, IsFound, IsFoundByOne, IsSearched, IsNoBound, IsOfRun, IsOfProvedRun, MayAnswer, MayCertify, certifying_rules_of, problem_of, problem_within, rules_of, AreStatsOf, AreFiguresOfRun, HasStats}
 use Rattle.outcomes.specs.declared.outcome.Outcome.{Outcome}
 use Rattle.outcomes.specs.Outcomes.{Task, Answers}
@@ -194,6 +196,20 @@ module _ (setup : SetupModel) (start : BoardModel) where
     where
       by_one : IsFoundAlone EndsWithFigures owner_of (problem_within limit setup start) owners found → IsFoundByOne EndsWithFigures (λ it. it.ending) setup start found
       by_one run = (limit, record { run = alone_any EndsWithFigures setup start limit owner_of are owners owner_by setup_owners setup.spread found run; within = within; whole = whole })
+
+  -- one worker expands no more than it is allowed
+  pub one_is_few : (limit most : ℕ) {S : Type 0} (owner_of : S → ℕ → BoardModel → ℕ) (owners : S) (found : EndingWithFigures) (stats : Stats) → limit ≤ most → (¬ SameClass start setup.goal → ◌≡◌ {A = Result EndingWithFigures OutOfMemory} (Ok found) (Ok (record { ending = Unsolvable Parity; figures = record { expanded = 0; known = 0 } }))) → (SameClass start setup.goal → IsFoundAlone EndsWithFigures owner_of (problem_within limit setup start) owners found) → AreStatsOf setup start found.figures stats → stats.expanded ≤ most
+  one_is_few limit most owner_of owners found stats low by_parity run are = by_class (one_class start setup.goal)
+    where
+      cut : (w : WorldState) → expansion_count w ≤ limit → found.figures.expanded ≡ expansion_count w → stats.expanded ≤ most
+      cut w few is = let e = are.expanded in omega (arith, few, low, is, e)
+
+      by_one : IsFoundAlone EndsWithFigures owner_of (problem_within limit setup start) owners found → stats.expanded ≤ most
+      by_one (w, run, gives) = cut w run.within_limit gives.1.expanded
+
+      by_class : SameClass start setup.goal ⊎ (¬ SameClass start setup.goal) → stats.expanded ≤ most
+      by_class (inl together) = by_one (run together)
+      by_class (inr other) = let e = are.expanded in let none : found.figures.expanded ≡ 0 = ap (λ (f : Figures). f.expanded) (no_run_figures found by_parity other) in omega (arith, e, none)
 
   -- for a board of the other class memory is never refused
   pub may_refuse : {X : Type 0} (refused : OutOfMemory) (parity : X) → (¬ SameClass start setup.goal → error_of refused ≡ Ok parity) → MayAnswer setup start None

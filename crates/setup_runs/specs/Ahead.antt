@@ -1,5 +1,5 @@
 -- Boards that are solved before their lines are taken.
-use Rattle.std.specs.Prelude.{ℕ, ◌≡◌, All, IfSome, Option, Some, Vec}
+use Rattle.std.specs.Prelude.{ℕ, ◌≡◌, ◌≤◌, All, IfSome, Option, Some, Vec}
 use Rattle.std.specs.declared.alloc.Global.{Global}
 use Rattle.board.specs.declared.moves.Move.{Move}
 use Rattle.board.specs.Shapes.{ShapeModel}
@@ -9,8 +9,10 @@ use Rattle.outcomes.specs.declared.outcome.Ending.{Ending}
 use Rattle.outcomes.specs.declared.outcome.Ending.TheVariants.{Bounded}
 use Rattle.outcomes.specs.declared.outcome.Want.{Want}
 use Rattle.batch_runs.specs.Setups.{SetupModel}
+use Rattle.batch_runs.specs.declared.stats.Solved.{Solved}
 use Rattle.setup_runs.specs.Solving.{MayAnswer, HasStats}
 use Rattle.setup_runs.specs.declared.ahead.Tried.{Tried}
+use Rattle.setup_runs.specs.declared.solving.TheConstants.{ENOUGH_EXPANDED}
 
 -- the board has the sides of this grid
 abbrev pub HasSides : ShapeModel → BoardModel → Type 0
@@ -20,9 +22,13 @@ HasSides grid b = b.grid ≡ grid
 abbrev pub LacksMemory : Ending → Type 0
 LacksMemory ending = (bound : ℕ) × (best : Option (ℕ × Vec Move Global)) × (want : Want) × (ending ≡ Bounded bound best (Memory want))
 
--- the board may be answered by its ending, which has the stats of the search that gave it; it may have none
+-- one worker ended the board with no more expansions than are enough for one
+abbrev pub IsEndedAlone : Solved → Type 0
+IsEndedAlone solved = solved.stats.expanded ≤ ENOUGH_EXPANDED
+
+-- the board may be answered by its ending, which one worker found and which has the stats of its search; it may have none
 abbrev pub IsTried : SetupModel → Tried → Type 0
-IsTried setup it = IfSome it.solved (λ solved. MayAnswer setup it.board (Some solved.ending) × HasStats setup it.board solved)
+IsTried setup it = IfSome it.solved (λ solved. MayAnswer setup it.board (Some solved.ending) × HasStats setup it.board solved × IsEndedAlone solved)
 
 -- each board of a lane was tried so
 abbrev pub AreTried : SetupModel → Vec Tried Global → Type 0

@@ -4,12 +4,11 @@ ghost use Rattle.std.specs.Prelude.{◌≡◌, ◌↔◌, ◌<◌, ◌≤◌, Al
 ghost use Rattle.std.specs.Prelude.{IsFalse, Some, None};
 ghost use Rattle.batch_runs.specs.Batches.{AreAllowed};
 ghost use Rattle.batch_runs.specs.Setups.{SetupModel};
-ghost use Rattle.setup_runs.specs.Ahead.{HasSides, LacksMemory, IsTried, AreTried};
+ghost use Rattle.setup_runs.specs.Ahead.{HasSides, LacksMemory, IsEndedAlone, IsTried, AreTried};
 ghost use Rattle.setup_runs.specs.Solving.{MayAnswer, IsNoBound, HasStats, rules_of};
 ghost use Rattle.setup_runs.specs.declared.ahead.Left.TheVariants.{TooHard};
-ghost use Rattle.setup_runs.specs.declared.ahead.TheConstants.{ENOUGH_EXPANDED};
 
-use crate::solving::{Question, TellsBounds, job_within, solved_since};
+use crate::solving::{ENOUGH_EXPANDED, Question, TellsBounds, job_within, solved_since};
 use crate::watching::Watch;
 use batch_lines::{LineKind, LineReader, read_entry};
 use batch_runs::{Setup, Solved};
@@ -34,10 +33,6 @@ const FEWEST_BOARDS: usize = 2;
 
 // The most lines that are looked at ahead.
 const MOST_LINES: u32 = 4096;
-
-// After this many expansions for one board a thread leaves it to all workers, and after as many for
-// all its boards it takes no other one. So reports come each second or so, whatever lines follow.
-const ENOUGH_EXPANDED: u64 = 2_000_000;
 
 /// A board that one worker tried, its place among those that are solved with it, and its ending
 /// with figures. A board without an ending is left to all workers.
@@ -96,6 +91,7 @@ pub(crate) fn end_ahead<R: Threads + Wait + Sync, W: Watch + Sync>(
     requires several { 2 ≤ setup.now.workers }
     ensures allowed { AreAllowed (rules_of setup.now) result.items }
     ensures stats { All (λ it. IfSome it.1 (HasStats setup.now it.0)) result.items }
+    ensures alone { All (λ it. IfSome it.1 IsEndedAlone) result.items }
 {
     let threads = setup.worker_count();
     let Ok(made) = new_lanes(alloc, threads) else {
@@ -303,6 +299,7 @@ fn end_alone<S: Spread, W: Watch>(
     ensures left { OnErr result (MayAnswer question.now.setup.now question.now.start.now None) }
     ensures hard { IsErrOf result TooHard → ENOUGH_EXPANDED < question.now.setup.now.limit }
     ensures stats { IfOk result (HasStats question.now.setup.now question.now.start.now) }
+    ensures few { IfOk result (λ solved. solved.stats.expanded ≤ ENOUGH_EXPANDED) }
 {
     let begun = watch.microseconds();
     let limit = question.setup.expansion_limit().min(ENOUGH_EXPANDED);
@@ -354,6 +351,7 @@ fn take_endings(
     requires { All (AreTried setup.now) lanes.old }
     ensures allowed { AreAllowed (rules_of setup.now) result.items }
     ensures stats { All (λ it. IfSome it.1 (HasStats setup.now it.0)) result.items }
+    ensures alone { All (λ it. IfSome it.1 IsEndedAlone) result.items }
 {
     let mut ready = Vec::new(alloc);
     'places: for place in (0..boards.len()).rev() {
@@ -374,6 +372,7 @@ fn entry_of(setup: &Setup, tried: Option<Tried>, board: Board) -> (Board, Option
     ensures ending { IfSome result.1
         (λ solved. MayAnswer setup.now result.0 (Some solved.ending)) }
     ensures stats { IfSome result.1 (HasStats setup.now result.0) }
+    ensures alone { IfSome result.1 IsEndedAlone }
 {
     let _ = setup;
     match tried {

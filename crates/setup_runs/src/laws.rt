@@ -1,5 +1,6 @@
 //! The laws of the definitions: each is the contract of a function that does nothing.
 
+ghost use Rattle.std.specs.Prelude.{◌≡◌};
 ghost use Rattle.setup_runs.specs.Laws.{ParityWantsNoMemory, ParityIsAnswered};
 ghost use Rattle.setup_runs.specs.Laws.{BoundsAreNeverCut, LimitsAreTheSetups};
 ghost use Rattle.setup_runs.specs.Laws.{LimitsAreNearlySpent};
@@ -10,6 +11,7 @@ ghost use Rattle.setup_runs.specs.Solving.{HasStats, rules_of};
 ghost use Rattle.batch_runs.specs.Laws.{FiguresBelongToReports};
 ghost use Rattle.batch_runs.specs.Setups.{SetupModel};
 
+use crate::solving::ENOUGH_EXPANDED;
 use crate::watching::Watch;
 
 /// A board of the other class is never refused for memory.
@@ -51,6 +53,11 @@ pub fn stats_are_of_worlds()
 #[tactic(auto, using(crate::proofs::LawLemmas::stats_within_limits))]
 pub fn stats_are_within_the_limit()
     ensures { StatsAreWithinTheLimit }
+{}
+
+/// One worker expands at most two million for a board, unless it is the only worker.
+pub fn two_million_are_enough()
+    ensures { ENOUGH_EXPANDED ≡ 2000000 }
 {}
 
 /// The figures that a watch takes are those of a board that a line names by the same id.

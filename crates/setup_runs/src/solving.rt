@@ -26,6 +26,11 @@ use world_ends::{EndingWithFigures, Reading, WithFigures, WithRows};
 // thousand times more for an easy board.
 const EASY_EXPANSIONS: u64 = 16_384;
 
+/// Where several boards are solved side by side, a thread leaves a board to all workers after this
+/// many expansions. After as many for all its boards it takes no other one. So it expands less than
+/// twice as many before the next reports, however many lines follow.
+pub(crate) const ENOUGH_EXPANDED: u64 = 2_000_000;
+
 /// A reading that tells bounds from other answers.
 pub(crate) trait TellsBounds: Reading {
     /// Whether an answer is a bound.

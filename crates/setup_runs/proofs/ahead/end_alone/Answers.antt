@@ -1,7 +1,8 @@
 use Rattle.std.proofs.Common.{arith, Some, subst, sym}
 use Rattle.outcomes.specs.declared.outcome.Ending.{Ending}
 use Rattle.setup_runs.specs.Solving.{MayAnswer}
-use Rattle.setup_runs.proofs.SolvingLemmas.{may_end, may_lack, may_leave, may_refuse, one_has_stats}
+use Rattle.setup_runs.specs.declared.solving.TheConstants.{ENOUGH_EXPANDED}
+use Rattle.setup_runs.proofs.SolvingLemmas.{may_end, may_lack, may_leave, may_refuse, one_has_stats, one_is_few}
 use Rattle.setup_runs.proofs.ahead.end_alone.Goals as goal
 
 pub returns-in_default-clause-left : goal.returns-in_default-clause-left
@@ -31,3 +32,8 @@ pub returns-clause-stats : goal.returns-clause-stats
 returns-clause-stats g c =
     let run = rw c.job_within-job.ensures at c.in-Ok.ensures in
     one_has_stats c.args.question.now.setup.now c.args.question.now.start.now c.min-limit.result g.S.Spread.owner_of g.met.S.Spread.owners_are_workers c.args.spread.now c.in-Ok.found _ (omega (arith, c.min-limit.ensures)) (c.is_too_hard.ensures.no c.if-is_too_hard.false) run.parity.1 run.run c.solved_since.ensures.ending c.solved_since.ensures.stats
+
+pub returns-clause-few : goal.returns-clause-few
+returns-clause-few g c =
+    let run = rw c.job_within-job.ensures at c.in-Ok.ensures in
+    one_is_few c.args.question.now.setup.now c.args.question.now.start.now c.min-limit.result ENOUGH_EXPANDED g.S.Spread.owner_of c.args.spread.now c.in-Ok.found _ (omega (arith, c.min-limit.ensures)) run.parity.1 run.run c.solved_since.ensures.stats
