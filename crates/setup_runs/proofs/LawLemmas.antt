@@ -3,7 +3,8 @@ use Rattle.std.proofs.Common.{arith, ℕ, ◌≡◌, ◌≤◌, ◌+◌, ◌*◌
 use Rattle.std.specs.declared.alloc.Global.{Global}
 use Rattle.board.specs.declared.moves.Move.{Move}
 use Rattle.board.specs.Boards.{BoardModel}
-use Rattle.outcomes.specs.declared.outcome.Ending.TheVariants.{Bounded}
+use Rattle.outcomes.specs.declared.outcome.Ending.{Ending}
+use Rattle.outcomes.specs.declared.outcome.Ending.TheVariants.{Optimal, Unsolvable, Bounded}
 use Rattle.world_model.specs.declared.steps.Refusal.{Refusal}
 use Rattle.world_model.specs.declared.steps.Step.{Step}
 use Rattle.world_model.specs.Openings.{opening}
@@ -12,14 +13,17 @@ use Rattle.world_model.specs.Worlds.{WorldState}
 use Rattle.world_ends.specs.Endings.{EndsIn}
 use Rattle.world_ends.specs.Readings.{EndsWithFigures}
 use Rattle.hda_run.specs.Alone.{IsFoundAlone}
-use Rattle.outcomes.specs.declared.outcome.Cause.TheVariants.{Limit}
+use Rattle.outcomes.specs.declared.outcome.Cause.{Cause}
+use Rattle.outcomes.specs.declared.outcome.Cause.TheVariants.{Limit, Memory}
+use Rattle.outcomes.specs.declared.outcome.Want.{Want}
 use Rattle.hda_run.specs.Worlds.{job_of}
 use Rattle.world_model.specs.Credit.{expansion_count}
 use Rattle.world_model.specs.declared.limits.TheConstants.{GREATEST_GRANT}
 use Rattle.world_ends.proofs.PartLemmas.{ends_bounded}
 use Rattle.world_model.proofs.KeptLemmas.{causes_stop}
 use Rattle.batch_runs.specs.Setups.{SetupModel, owner_by}
-use Rattle.setup_runs.specs.Laws.{StatsAreOfTheSetups, job_by, BoundsAreNeverCut, LimitsAreTheSetups, LimitsAreNearlySpent, StatsAreOfWorlds, StatsAreWithinTheLimit, FiguresAreOfBoards}
+use Rattle.setup_runs.specs.Ahead.{LacksMemory}
+use Rattle.setup_runs.specs.Laws.{EndedAloneIsWhole, MemoryIsLacked, StatsAreOfTheSetups, job_by, BoundsAreNeverCut, LimitsAreTheSetups, LimitsAreNearlySpent, StatsAreOfWorlds, StatsAreWithinTheLimit, FiguresAreOfBoards}
 use Rattle.std.specs.FinMap as map
 use Rattle.std.specs.Prelude.{min, ◌^◌, ◌-◌, sum_by}
 use Rattle.board.specs.Classes.{SameClass}
@@ -145,3 +149,18 @@ pub figures_of_boards : FiguresAreOfBoards
 figures_of_boards id stats (setup, line, b, ending, entry, has) =
     let solved : Solved = record { ending = ending; stats = stats } in
     (setup, line, b, entry, (stats_of_worlds setup b solved has).2, stats_within_limits setup b solved has)
+
+-- the cause of an ending, where it is a bound, or else another one
+abbrev cause_or : Cause → Ending → Cause
+cause_or other (Bounded bound best cause) = cause
+cause_or other (Optimal cost plan) = other
+cause_or other (Unsolvable why) = other
+
+pub memory_lacked : MemoryIsLacked
+memory_lacked = ((λ bound best want. (bound, best, want, refl)), by_cause)
+  where
+    by_cause : (bound : ℕ) (best : Option (ℕ × Vec Move Global)) (cause : Cause) → LacksMemory (Bounded bound best cause) → (want : Want) × (cause ≡ Memory want)
+    by_cause bound best cause (other, plan, want, is) = (want, ap (cause_or cause) is)
+
+pub ended_whole : EndedAloneIsWhole
+ended_whole solved alone = (alone.0, λ bound best want is. alone.1 (bound, best, want, is))

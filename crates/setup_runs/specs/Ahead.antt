@@ -22,9 +22,9 @@ HasSides grid b = b.grid ≡ grid
 abbrev pub LacksMemory : Ending → Type 0
 LacksMemory ending = (bound : ℕ) × (best : Option (ℕ × Vec Move Global)) × (want : Want) × (ending ≡ Bounded bound best (Memory want))
 
--- one worker ended the board with no more expansions than are enough for one
+-- one worker ended the board with no more expansions than are enough for one, and not because memory was refused
 abbrev pub IsEndedAlone : Solved → Type 0
-IsEndedAlone solved = solved.stats.expanded ≤ ENOUGH_EXPANDED
+IsEndedAlone solved = (solved.stats.expanded ≤ ENOUGH_EXPANDED) × (¬ LacksMemory solved.ending)
 
 -- the board may be answered by its ending, which one worker found and which has the stats of its search; it may have none
 abbrev pub IsTried : SetupModel → Tried → Type 0

@@ -8,6 +8,7 @@ use Rattle.board.specs.Classes.{SameClass}
 use Rattle.outcomes.specs.declared.outcome.Ending.{Ending}
 use Rattle.outcomes.specs.declared.outcome.Cause.{Cause}
 use Rattle.outcomes.specs.declared.outcome.Cause.TheVariants.{Limit, Start, Cut, Memory}
+use Rattle.outcomes.specs.declared.outcome.Want.{Want}
 use Rattle.outcomes.specs.declared.outcome.Want.TheVariants.{Stated}
 use Rattle.outcomes.specs.declared.outcome.Ending.TheVariants.{Unsolvable, Bounded}
 use Rattle.outcomes.specs.declared.outcome.Outcome.{Outcome}
@@ -27,6 +28,7 @@ use Rattle.batch_runs.specs.Setups.{SetupModel, task_of_setup}
 use Rattle.batch_lines.specs.Words.{IsEntry}
 use Rattle.batch_runs.specs.declared.stats.Stats.{Stats}
 use Rattle.batch_runs.specs.declared.stats.Solved.{Solved}
+use Rattle.setup_runs.specs.Ahead.{LacksMemory, IsEndedAlone}
 use Rattle.setup_runs.specs.Solving.{MayAnswer, MayCertify, HasStats, AreFiguresOfLine}
 
 -- a board of the other class is never refused for memory
@@ -115,3 +117,16 @@ FiguresAreOfBoards =
     → AreFiguresOfLine id stats
     → (setup : SetupModel) × (line : List ℕ) × (b : BoardModel)
     × IsEntry setup.goal.grid line id b × (stats.start_sum ≡ (task_of_setup setup b).sum b) × (stats.expanded ≤ setup.limit)
+
+-- Just the bounds whose cause is memory lack it, whoever says that it was refused.
+abbrev pub MemoryIsLacked : Type 0
+MemoryIsLacked =
+    ((bound : ℕ) (best : Option (ℕ × Vec Move Global)) (want : Want) → LacksMemory (Bounded bound best (Memory want)))
+    × ((bound : ℕ) (best : Option (ℕ × Vec Move Global)) (cause : Cause) → LacksMemory (Bounded bound best cause) → (want : Want) × (cause ≡ Memory want))
+
+-- What one worker ended by itself took at most two million expansions, and is no bound for which memory was refused.
+abbrev pub EndedAloneIsWhole : Type 0
+EndedAloneIsWhole =
+    (solved : Solved)
+    → IsEndedAlone solved
+    → (solved.stats.expanded ≤ 2000000) × ((bound : ℕ) (best : Option (ℕ × Vec Move Global)) (want : Want) → solved.ending ≢ Bounded bound best (Memory want))

@@ -7,6 +7,7 @@ ghost use Rattle.setup_runs.specs.Laws.{LimitsAreNearlySpent};
 ghost use Rattle.setup_runs.specs.Laws.{ParityIsCertified, CertifiedEndsAreAnswered};
 ghost use Rattle.setup_runs.specs.Laws.{StatsAreOfWorlds, StatsAreOfTheSetups};
 ghost use Rattle.setup_runs.specs.Laws.{StatsAreWithinTheLimit, FiguresAreOfBoards};
+ghost use Rattle.setup_runs.specs.Laws.{MemoryIsLacked, EndedAloneIsWhole};
 ghost use Rattle.setup_runs.specs.Solving.{HasStats, rules_of};
 ghost use Rattle.batch_runs.specs.Laws.{FiguresBelongToReports};
 ghost use Rattle.batch_runs.specs.Setups.{SetupModel};
@@ -58,6 +59,14 @@ pub fn stats_are_within_the_limit()
 /// One worker expands at most two million for a board, unless it is the only worker.
 pub fn two_million_are_enough()
     ensures { ENOUGH_EXPANDED ≡ 2000000 }
+{}
+
+/// A bound for which memory was refused lacks it, whoever says so, and no other bound does. What
+/// one worker ended by itself is no such bound.
+#[tactic(auto, using(crate::proofs::LawLemmas::memory_lacked, crate::proofs::LawLemmas::ended_whole))]
+pub fn memory_is_lacked()
+    ensures bounds { MemoryIsLacked }
+    ensures alone { EndedAloneIsWhole }
 {}
 
 /// The figures that a watch takes are those of a board that a line names by the same id.
