@@ -1,5 +1,5 @@
 -- What the setup's workers answer is what its rules allow.
-use Rattle.std.proofs.Common.{ℕ, ◌≡◌, ◌⊎◌, ◌↔◌, ◌≤◌, ◌++◌, ◌∷◌, [], All, Bool, true, false, if◌then◌else◌, Vec, None, Some, Result, Ok, Err, IfOk, refl, ap, subst, inl, inr, sym, arith}
+use Rattle.std.proofs.Common.{ℕ, ◌≡◌, ◌⊎◌, ◌↔◌, ◌<◌, ◌≤◌, ◌++◌, ◌∷◌, [], All, Bool, true, false, if◌then◌else◌, Vec, None, Some, Result, Ok, Err, IfOk, refl, ap, subst, inl, inr, sym, arith}
 use Rattle.std.proofs.lemmas.List.Elements.{All-nil, All-push}
 use Rattle.std.specs.declared.alloc.Global.{Global}
 use Rattle.board.specs.Boards.{BoardModel}
@@ -27,10 +27,11 @@ use Rattle.batch_runs.specs.Setups.{SetupModel, owner_by, task_of_setup}
 use Rattle.batch_runs.specs.Batches.{IsTruthful}
 use Rattle.thread_joins.specs.Threads.{IsJoined}
 use Rattle.thread_runs.specs.Solved.{IsFoundByWorkers, IsLeftToOne}
-use Rattle.setup_runs.specs.Ahead.{LacksMemory, IsTried, AreTried}
+use Rattle.setup_runs.specs.Ahead.{LacksMemory, IsTooHard, IsTried, AreTried}
 use Rattle.setup_runs.specs.declared.ahead.Tried.{Tried}
 use Rattle.batch_runs.specs.declared.stats.Solved.{Solved}
 use Rattle.batch_runs.specs.declared.stats.Stats.{Stats}
+use Rattle.setup_runs.specs.declared.solving.TheConstants.{ENOUGH_EXPANDED}
 use Rattle.setup_runs.specs.Solving.{AnswersBoard, IsFound, IsFoundByOne, IsSearched, IsNoBound, IsOfRun, IsOfProvedRun, MayAnswer, MayCertify, certifying_rules_of, problem_of, problem_within, rules_of, AreStatsOf, AreFiguresOfRun, HasStats}
 use Rattle.outcomes.specs.declared.outcome.Outcome.{Outcome}
 use Rattle.outcomes.specs.Outcomes.{Task, Answers}
@@ -234,6 +235,16 @@ module _ (setup : SetupModel) (start : BoardModel) where
       of_class : SameClass start setup.goal ⊎ (¬ SameClass start setup.goal) → SameClass start setup.goal
       of_class (inl together) = together
       of_class (inr other) = let parity : found.ending ≡ Unsolvable Parity = ap (λ (it : EndingWithFigures). it.ending) (ap (value_or found) (by_parity other)) in absurd (bound (subst IsNoBound (sym parity) tt))
+
+  -- with a bound by as many expansions as are enough for one, memory was there and the board is too hard
+  pub left_too_hard : (limit : ℕ) {S : Type 0} (owner_of : S → ℕ → BoardModel → ℕ) → AreWorkers owner_of → (owners : S) (figures : Figures) (found : EndingWithFigures) → limit ≡ ENOUGH_EXPANDED → ENOUGH_EXPANDED < setup.limit → (¬ SameClass start setup.goal → ◌≡◌ {A = Result EndingWithFigures OutOfMemory} (Ok found) (Ok (record { ending = Unsolvable Parity; figures = figures }))) → (SameClass start setup.goal → IsFoundAlone EndsWithFigures owner_of (problem_within limit setup start) owners found) → ¬ IsNoBound found.ending → ¬ LacksMemory found.ending → IsTooHard setup start
+  left_too_hard limit owner_of are owners figures found enough more by_parity run bound whole = record {
+    found = found;
+    run = subst (λ (k : ℕ). IsFoundAlone EndsWithFigures owner_by (problem_within k setup start) setup.spread found) enough (alone_any EndsWithFigures setup start limit owner_of are owners owner_by setup_owners setup.spread found (run (may_leave figures found by_parity bound)));
+    bound = bound;
+    whole = whole;
+    more = more;
+  }
 
   -- what they find with rows is what its rules allow too
   pub may_prove : (result : Result Outcome OutOfMemory) → (result ≡ Ok (outcome.Unsolvable Parity)) ↔ (¬ SameClass start setup.goal) → (SameClass start setup.goal → IfOk result (IsFound IsGiven without_rows setup start)) → IfOk result (Answers (task_of_setup setup start)) → IfOk result HasWholeRun → MayProve (certifying_rules_of setup) start result

@@ -1,10 +1,12 @@
 //! Boards of several lines, which are solved side by side before their lines are taken.
 
-ghost use Rattle.std.specs.Prelude.{◌≡◌, ◌↔◌, ◌<◌, ◌≤◌, All, IfSome, IfOk, OnErr, IsErrOf, IsTrue, ◌⊎◌};
-ghost use Rattle.std.specs.Prelude.{IsFalse, Some, None};
+ghost use Rattle.std.specs.Prelude.{◌≡◌, ◌<◌, ◌≤◌, All, IfSome, IfNone, IfOk, OnErr, IsErrOf, IsTrue};
+ghost use Rattle.std.specs.Prelude.{◌⊎◌, IsFalse, Some, None};
 ghost use Rattle.batch_runs.specs.Batches.{AreAllowed};
 ghost use Rattle.batch_runs.specs.Setups.{SetupModel};
-ghost use Rattle.setup_runs.specs.Ahead.{HasSides, LacksMemory, IsEndedAlone, IsTried, AreTried};
+ghost use Rattle.setup_runs.specs.Ahead.{HasSides, LacksMemory, IsEndedAlone, IsTooHard};
+ghost use Rattle.setup_runs.specs.Ahead.{IsTried, AreTried};
+ghost use Rattle.hda_run.specs.WholeRuns.{EndsWholeRun};
 ghost use Rattle.setup_runs.specs.Solving.{MayAnswer, IsNoBound, HasStats, rules_of};
 ghost use Rattle.setup_runs.specs.declared.ahead.Left.TheVariants.{TooHard};
 
@@ -16,7 +18,7 @@ use board::{Board, Shape};
 use byte_streams::ByteSource;
 use hda_run::read_one;
 use memory::{OutOfMemory, push};
-use outcomes::{Cause, Ending};
+use outcomes::{Cause, Ending, Want};
 use owners::{ByBlank, Spread};
 use std::alloc::Global;
 use std::sync::{Mutex, Wait};
@@ -43,11 +45,11 @@ pub(crate) struct Tried {
     pub(crate) solved: Option<Solved>,
 }
 
-// Why a board is left to all workers.
+// Why a board is left to all workers. Nobody can say that memory was refused without a refusal.
 #[derive(Clone, Copy)]
 enum Left {
     TooHard,
-    NoMemory,
+    NoMemory(OutOfMemory),
 }
 
 /// A board and those that the first whole lines among these bytes name, where they are worth
@@ -261,7 +263,7 @@ fn try_next<R: Wait, W: Watch>(shared: &Shared<'_, R, W>) -> Option<Tried>
             board,
             solved: None,
         }),
-        Err(Left::NoMemory) => {
+        Err(Left::NoMemory(_)) => {
             *shared.next.lock(shared.rt) = shared.boards.len();
             None
         }
@@ -297,18 +299,20 @@ fn end_alone<S: Spread, W: Watch>(
         MayAnswer question.now.setup.now question.now.start.now (Some solved.ending)) }
     ensures whole { IfOk result (λ solved. ¬ LacksMemory solved.ending) }
     ensures left { OnErr result (MayAnswer question.now.setup.now question.now.start.now None) }
-    ensures hard { IsErrOf result TooHard → ENOUGH_EXPANDED < question.now.setup.now.limit }
+    ensures hard { IsErrOf result TooHard
+        → IsTooHard question.now.setup.now question.now.start.now }
     ensures stats { IfOk result (HasStats question.now.setup.now question.now.start.now) }
     ensures few { IfOk result (λ solved. solved.stats.expanded ≤ ENOUGH_EXPANDED) }
 {
     let begun = watch.microseconds();
     let limit = question.setup.expansion_limit().min(ENOUGH_EXPANDED);
     let job = job_within(question, limit);
-    let Ok(found) = read_one::<WithFigures, S, W>(alloc, job, spread, watch) else {
-        return Err(Left::NoMemory);
+    let found = match read_one::<WithFigures, S, W>(alloc, job, spread, watch) {
+        Ok(found) => found,
+        Err(refused) => return Err(Left::NoMemory(refused)),
     };
-    if lacked_memory(&found.ending) {
-        return Err(Left::NoMemory);
+    if let Some(refused) = refusal_of(&found.ending) {
+        return Err(Left::NoMemory(refused));
     }
     if is_too_hard(question.setup, limit, &found) {
         return Err(Left::TooHard);
@@ -330,13 +334,18 @@ fn is_too_hard(setup: &Setup, limit: u64, found: &EndingWithFigures) -> bool
     WithFigures::is_bound(found)
 }
 
-// Whether a bound was answered as memory was refused.
-fn lacked_memory(ending: &Ending) -> bool
-    ensures { IsTrue result ↔ LacksMemory ending.now }
+// The refusal of memory for which a run by itself ended with a bound, if it did so.
+fn refusal_of(ending: &Ending) -> Option<OutOfMemory>
+    requires { EndsWholeRun ending.now }
+    ensures some { IfSome result (λ refused. LacksMemory ending.now) }
+    ensures none { IfNone result (¬ LacksMemory ending.now) }
 {
     match ending {
-        Ending::Bounded { cause, .. } => matches!(cause, Cause::Memory(_)),
-        _ => false,
+        Ending::Bounded {
+            cause: Cause::Memory(Want::Refused(refused)),
+            ..
+        } => Some(*refused),
+        _ => None,
     }
 }
 

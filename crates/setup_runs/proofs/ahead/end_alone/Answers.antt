@@ -2,18 +2,24 @@ use Rattle.std.proofs.Common.{arith, Some, subst, sym}
 use Rattle.outcomes.specs.declared.outcome.Ending.{Ending}
 use Rattle.setup_runs.specs.Solving.{MayAnswer}
 use Rattle.setup_runs.specs.declared.solving.TheConstants.{ENOUGH_EXPANDED}
-use Rattle.setup_runs.proofs.SolvingLemmas.{may_end, may_lack, may_leave, may_refuse, one_has_stats, one_is_few}
+use Rattle.setup_runs.proofs.SolvingLemmas.{left_too_hard, may_end, may_lack, may_leave, may_refuse, one_has_stats, one_is_few}
 use Rattle.setup_runs.proofs.ahead.end_alone.Goals as goal
 
-pub returns-in_default-clause-left : goal.returns-in_default-clause-left
-returns-in_default-clause-left g c =
-    let run = rw (c.job_within-job.ensures, c.in_default.is) at c.read_one.ensures in
-    may_refuse c.args.question.now.setup.now c.args.question.now.start.now _ _ run.parity.1
+pub returns-in-Err-clause-left : goal.returns-in-Err-clause-left
+returns-in-Err-clause-left g c =
+    let run = rw c.job_within-job.ensures at c.in-Err.ensures in
+    may_refuse c.args.question.now.setup.now c.args.question.now.start.now c.in-Err.refused _ run.parity.1
 
-pub returns-then-lacked_memory-clause-left : goal.returns-then-lacked_memory-clause-left
-returns-then-lacked_memory-clause-left g c =
+pub returns-in-Some-clause-left : goal.returns-in-Some-clause-left
+returns-in-Some-clause-left g c =
     let run = rw c.job_within-job.ensures at c.in-Ok.ensures in
-    may_lack c.args.question.now.setup.now c.args.question.now.start.now _ c.in-Ok.found run.parity.1 (c.lacked_memory.ensures.0 c.if-lacked_memory.true)
+    may_lack c.args.question.now.setup.now c.args.question.now.start.now _ c.in-Ok.found run.parity.1 c.in-Some.ensures.some
+
+pub returns-then-is_too_hard-clause-hard : goal.returns-then-is_too_hard-clause-hard
+returns-then-is_too_hard-clause-hard g c =
+    let run = rw c.job_within-job.ensures at c.in-Ok.ensures in
+    let hard = c.is_too_hard.ensures.yes c.if-is_too_hard.true in
+    λ is. left_too_hard c.args.question.now.setup.now c.args.question.now.start.now c.min-limit.result g.S.Spread.owner_of g.met.S.Spread.owners_are_workers c.args.spread.now _ c.in-Ok.found (omega (arith, hard.0, c.min-limit.ensures)) (omega (arith, hard.0, c.min-limit.ensures)) run.parity.1 run.run hard.1 c.in_default.ensures.none
 
 pub returns-then-is_too_hard-clause-left : goal.returns-then-is_too_hard-clause-left
 returns-then-is_too_hard-clause-left g c =
