@@ -84,7 +84,7 @@ impl<
 /// Where a setup has several workers and the source holds several lines, their boards are tried
 /// side by side, each by one worker. Then their lines are taken one after the other, and a board
 /// that was too hard for one worker is solved by all. A line that comes alone is solved by one
-/// worker if its board is easy, and else by all.
+/// worker if its board is easy or the limit is at most two million, and else by all.
 ///
 /// The sink is flushed after each report, so that whoever waits for one has it; nothing is flushed
 /// for a line that is passed over.

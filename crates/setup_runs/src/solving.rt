@@ -22,8 +22,8 @@ use thread_runs::laws::owners_are_workers;
 use thread_runs::search_by_workers;
 use world_ends::{EndingWithFigures, Reading, WithFigures, WithRows};
 
-// The most boards that one worker expands before several share the search. They expand up to a
-// thousand times more for an easy board.
+// The most boards that one worker expands before several share the search, where the setup's limit
+// is above `ENOUGH_EXPANDED`. Several expand up to a thousand times more for an easy board.
 const EASY_EXPANSIONS: u64 = 16_384;
 
 /// Where several boards are solved side by side, a thread leaves a board to all workers after this
@@ -158,8 +158,21 @@ fn answer_shared<A: TellsBounds, R: Threads + Wait + Sync, G: Gate + Sync>(
     }
 }
 
+// How many boards one of several workers expands before all share the search: all that the setup
+// allows, where no more than `ENOUGH_EXPANDED` are allowed. What such a search proves would be lost
+// if all began anew within the same limit: a higher limit would give a lower bound.
+fn easy_limit(whole: u64) -> u64
+    ensures within { result ≤ whole }
+    ensures all { whole ≤ ENOUGH_EXPANDED → result ≡ whole }
+{
+    if whole <= ENOUGH_EXPANDED {
+        return whole;
+    }
+    EASY_EXPANSIONS
+}
+
 // The answer of a board by one of several workers, where the board is easy or the setup's limit is
-// so low. None where the board is to be shared.
+// at most `ENOUGH_EXPANDED`. None where the board is to be shared.
 fn answer_easy<A: TellsBounds, S: Spread, G: Gate>(
     alloc: Global,
     question: &Question<'_>,
@@ -171,7 +184,7 @@ fn answer_easy<A: TellsBounds, S: Spread, G: Gate>(
         question.now.setup.now question.now.start.now (Ok answer)) }
 {
     let whole = question.setup.expansion_limit();
-    let limit = whole.min(EASY_EXPANSIONS);
+    let limit = easy_limit(whole);
     let job = job_within(question, limit);
     let Ok(answer) = read_one::<A, S, G>(alloc, job, spread, gate) else {
         return None;
