@@ -1,15 +1,16 @@
 //! Batches whose lines are answered by the search that a setup guides, and certificates of what it
 //! proves.
 //!
-//! - `run_batch` and `run_cert`: `run_lines` and `certify_first` with the search of a setup. A
-//!   closure calls `read_board`, which makes the `Job` (`job_for`) and calls `search_by_workers`.
+//! - `run_batch` and `run_cert`: `run_lines` and `certify_first` with the search of a setup. Their
+//!   closures call `solve_board` or `answer_board`. These make the `Job` (`job_within`) and call
+//!   `read_one` for an easy board, and else `search_by_workers`.
 //! - `run_watched` is `run_batch` under a `Watch`: a gate, a clock, and whoever takes figures.
 //!   Searches read `WithFigures`, whose figures are exact; no contract says what a watch does.
 //! - One worker owns all boards, so it is run with the cheapest spread.
 //! - `end_ahead`: boards that are held together, at least 16 if they have at most 9 cells and at
 //!   least 2 if more, are solved each by one worker, in as many threads as workers. A thread that
-//!   has expanded two million takes no other. A board without memory is solved again at its line,
-//!   and so are those behind it.
+//!   has expanded two million takes no other. A board that takes more than two million, or lacks
+//!   memory, is solved again at its line; those behind it keep their endings.
 //! - `MayAnswer` is what a board may be answered, `MayCertify` with rows. `bounds_are_due` says
 //!   what they mean for bounds.
 //! - Start with `specs/Solving.antt`, then `src/solving.rt`.
