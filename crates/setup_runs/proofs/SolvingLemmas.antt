@@ -236,7 +236,7 @@ module _ (setup : SetupModel) (start : BoardModel) where
       of_class (inl together) = together
       of_class (inr other) = let parity : found.ending ≡ Unsolvable Parity = ap (λ (it : EndingWithFigures). it.ending) (ap (value_or found) (by_parity other)) in absurd (bound (subst IsNoBound (sym parity) tt))
 
-  -- with a bound by as many expansions as are enough for one, memory was there and the board is too hard
+  -- a board is too hard where one worker finds a bound within that limit, and memory was there
   pub left_too_hard : (limit : ℕ) {S : Type 0} (owner_of : S → ℕ → BoardModel → ℕ) → AreWorkers owner_of → (owners : S) (figures : Figures) (found : EndingWithFigures) → limit ≡ ENOUGH_EXPANDED → ENOUGH_EXPANDED < setup.limit → (¬ SameClass start setup.goal → ◌≡◌ {A = Result EndingWithFigures OutOfMemory} (Ok found) (Ok (record { ending = Unsolvable Parity; figures = figures }))) → (SameClass start setup.goal → IsFoundAlone EndsWithFigures owner_of (problem_within limit setup start) owners found) → ¬ IsNoBound found.ending → ¬ LacksMemory found.ending → IsTooHard setup start
   left_too_hard limit owner_of are owners figures found enough more by_parity run bound whole = record {
     found = found;

@@ -29,7 +29,7 @@ LacksMemory ending = (bound : ℕ) × (best : Option (ℕ × Vec Move Global)) �
 abbrev pub IsEndedAlone : Solved → Type 0
 IsEndedAlone solved = (solved.stats.expanded ≤ ENOUGH_EXPANDED) × (¬ LacksMemory solved.ending)
 
--- One worker that may expand enough for one board finds a bound alone, and not because memory was refused. The setup allows more.
+-- Within the limit that is enough for one board, one worker finds a bound, and not because memory was refused. The setup allows more.
 pub record IsTooHard (setup : SetupModel) (start : BoardModel) : Type 0 where
   pub found : EndingWithFigures
   pub run : IsFoundAlone EndsWithFigures owner_by (problem_within ENOUGH_EXPANDED setup start) setup.spread found

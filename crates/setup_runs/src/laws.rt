@@ -56,7 +56,7 @@ pub fn stats_are_within_the_limit()
     ensures { StatsAreWithinTheLimit }
 {}
 
-/// One worker expands at most two million for a board, unless it is the only worker.
+/// One of several workers expands at most two million for a board before all share it.
 pub fn two_million_are_enough()
     ensures { ENOUGH_EXPANDED ≡ 2000000 }
 {}

@@ -101,7 +101,7 @@ impl<'a, R: Wait, G: Gate, C: Tokens> Site<'a, R, G, C> {
         }
     }
 
-    // Sends what is unsent for a worker, lowers its floor, and wakes it.
+    // Sends what is unsent for a worker, lowers its level, and wakes it.
     fn hand_over<S: Spread>(&self, part: &mut Part<'_, S, C>, to: usize) -> Result<(), Refusal>
         requires holds { IsSoundPart S.owner_of C.workers part.old }
         requires there { to < C.workers }
@@ -110,7 +110,7 @@ impl<'a, R: Wait, G: Gate, C: Tokens> Site<'a, R, G, C> {
         if let Err(refusal) = part.send(to) {
             return Err(refusal);
         }
-        self.signs.lower_floor(to, part.me);
+        self.signs.lower_level(to, part.me);
         self.signs.wake(to);
         self.gate.pass(part.me, Kind::Send);
         Ok(())

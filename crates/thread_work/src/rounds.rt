@@ -3,7 +3,7 @@
 ghost use Rattle.std.specs.Prelude.{◌≡◌};
 ghost use Rattle.thread_parts.specs.Parts.{IsSoundPart, IsFaceKept, KeepsPart};
 
-use crate::signs::NO_FLOOR;
+use crate::signs::NO_LEVEL;
 use crate::site::Site;
 use hda_run::{Gate, Job, Kind};
 use lower_bound::TableList;
@@ -17,48 +17,52 @@ use world_model::Refusal;
 // time another worker hardly fills more than one packet, and one is taken in from each.
 const EXPANSIONS_IN_A_ROUND: u32 = 16;
 
-// For so many turns in a row a worker waits while others have boards of lower f.
+// After so many turns in a row without a packet a worker expands boards though others have some of
+// lower f.
 const PATIENT_TURNS: u32 = 32;
 
 // What is added to the lead where tables are folded.
 const FOLDED_LEAD: u64 = 4;
 
-// In so many rounds in a row boards of one f are expanded before those of it are put in order
-// again, and before they are once more.
+// In these rounds in a row at one f its boards are put in order again before one is expanded.
 const FEW_ROUNDS: u32 = 4;
 
 const MANY_ROUNDS: u32 = 64;
 
-// How a worker keeps pace with the others. What it expands while another one has boards of lower f
-// may cost more than the best plan, and then it is in vain.
+// How a worker keeps pace with the others. Where another one has boards of lower f, the f of what
+// it expands may be the best plan's cost or more, and then it is in vain.
 #[derive(Clone, Copy)]
 struct Pace {
-    // By how much the f of what it expands may be above the least f of all workers.
+    // By how much its level may be above the least one that is shown.
     lead: u64,
-    // The f of what it expanded last, and in how many rounds in a row.
-    f: u64,
+    // Its level, and in how many rounds in a row it expanded boards at this level.
+    level: u64,
     rounds: u32,
 }
 
 impl Pace {
-    // Where nothing of a job was expanded yet.
+    // Before the first round of a job.
     fn new(job: &Job<'_>) -> Self {
         Pace {
             lead: lead_in(job),
-            f: 0,
+            level: NO_LEVEL,
             rounds: 0,
         }
     }
 
-    // Whether boards of this f, which come next, are to be put in order again. They were when the
-    // first of them was expanded, but then others still had boards of lower f, whose successors came
-    // since.
-    fn wants_order(&mut self, f: u64) -> bool {
-        if f != self.f {
-            self.f = f;
+    // Begins a round at a level.
+    fn enter(&mut self, level: u64) {
+        if level != self.level {
+            self.level = level;
             self.rounds = 0;
         }
-        if f == NO_FLOOR {
+    }
+
+    // Counts a round in which boards are expanded, and answers whether they are to be put in order
+    // again before. They were in order when the first of this f was expanded, but then others still
+    // had boards of lower f, whose successors came since.
+    fn wants_order(&mut self) -> bool {
+        if self.level == NO_LEVEL {
             return false;
         }
         self.rounds = self.rounds.saturating_add(1);
@@ -66,18 +70,18 @@ impl Pace {
     }
 }
 
-// The lead of a worker in a job. At unit cost it has none: each f has many boards. Where moves cost
-// more an f has few, and by folded tables a successor may have a lower f than its board.
+// The lead of a worker in a job. At unit cost it has none, since each f has many boards. Where moves
+// cost more an f has few. By folded tables a successor may have a lower f than its board.
 fn lead_in(job: &Job<'_>) -> u64 {
     let weights = job.weights();
     let mut dearest = 1;
     'tiles: for tile in 1..weights.shape().cells() {
         dearest = dearest.max(weights.of(tile as u8));
     }
-    let lead = 2 * (u64::from(dearest) - 1);
+    let lead = u64::from(dearest).saturating_sub(1).saturating_mul(2);
     match job.bound().tables() {
         TableList::Whole(_) => lead,
-        TableList::Folded(_) => lead + FOLDED_LEAD,
+        TableList::Folded(_) => lead.saturating_add(FOLDED_LEAD),
     }
 }
 
@@ -118,27 +122,23 @@ impl<'a, R: Wait, G: Gate, C: Tokens> Site<'a, R, G, C> {
     }
 
     // One round: receive, expand, and rest where there was nothing to do. Answers whether something
-    // was done. A worker that rests looks at its rings alone, and takes no lock. One that is ahead
-    // of others waits for some turns, and sends what is unsent.
+    // was done; `turns` rounds before it did nothing. A worker that rests looks at its rings, shows
+    // its level, and takes no lock. One that is ahead of others waits, and sends what is unsent.
     fn round<S: Spread>(&self, part: &mut Part<'_, S, C>, pace: &mut Pace, turns: u32) -> bool
         requires { IsSoundPart S.owner_of C.workers part.old }
         ensures holds { IsSoundPart S.owner_of C.workers part.new }
         ensures kept { IsFaceKept part.old part.new }
     {
-        let received = self.receive(part);
-        let floor = self.show_floor(part, pace.lead);
+        let received = self.take_in(part, pace);
         if part.worker.purse() == 0 {
             return received;
         }
         self.tell_news(part);
-        if turns < PATIENT_TURNS && self.is_ahead(floor, pace.lead) {
+        if turns < PATIENT_TURNS && self.is_ahead(pace) {
             pace.rounds = 0;
             return self.send_all(part) || received;
         }
-        if pace.wants_order(floor) {
-            part.worker.order_anew();
-        }
-        if self.expand_some(part) {
+        if self.expand_in_order(part, pace) {
             return true;
         }
         if received {
@@ -147,28 +147,53 @@ impl<'a, R: Wait, G: Gate, C: Tokens> Site<'a, R, G, C> {
         self.rest(part)
     }
 
-    // Shows the others this worker's floor, and answers it. A lead may be left out. Before a floor
-    // is raised, all that is unsent goes out, since boards there may be of lower f.
-    fn show_floor<S: Spread>(&self, part: &mut Part<'_, S, C>, lead: u64) -> u64
+    // Receives, and shows the others this worker's level then. Answers whether there was a packet.
+    fn take_in<S: Spread>(&self, part: &mut Part<'_, S, C>, pace: &mut Pace) -> bool
+        requires { IsSoundPart S.owner_of C.workers part.old }
+        ensures holds { IsSoundPart S.owner_of C.workers part.new }
+        ensures kept { IsFaceKept part.old part.new }
+    {
+        let received = self.receive(part);
+        pace.enter(level_of(part));
+        self.show_level(part, pace);
+        received
+    }
+
+    // Shows the others this worker's level. A rise by no more than the lead may stay unshown. Before
+    // a greater one is shown, what is unsent goes out where rings have room: the boards there may be
+    // of lower f.
+    fn show_level<S: Spread>(&self, part: &mut Part<'_, S, C>, pace: &Pace)
         requires { IsSoundPart S.owner_of C.workers part.old }
         ensures { KeepsPart S.owner_of C.workers part.old part.new }
     {
-        let floor = floor_of(part);
-        let shown = self.signs.floor(part.me);
-        if floor < shown {
-            self.signs.set_floor(part.me, floor);
-            return floor;
+        let shown = self.signs.level(part.me);
+        if pace.level < shown {
+            self.signs.set_level(part.me, pace.level);
+            return;
         }
-        if floor > shown.saturating_add(lead) {
+        if pace.level > shown.saturating_add(pace.lead) {
             let _ = self.send_all(part);
-            self.signs.set_floor(part.me, floor);
+            self.signs.set_level(part.me, pace.level);
         }
-        floor
     }
 
-    // Whether a worker with this floor has more than a lead on another one.
-    fn is_ahead(&self, floor: u64, lead: u64) -> bool {
-        floor != NO_FLOOR && floor > self.signs.lowest_floor().saturating_add(lead)
+    // Whether a worker's level is above the least one that is shown by more than its lead. A worker
+    // without boards is never ahead.
+    fn is_ahead(&self, pace: &Pace) -> bool {
+        pace.level != NO_LEVEL && pace.level > self.signs.lowest_level().saturating_add(pace.lead)
+    }
+
+    // Lets boards be put in order again, if they are to be now, and expands some. Answers whether
+    // something was done.
+    fn expand_in_order<S: Spread>(&self, part: &mut Part<'_, S, C>, pace: &mut Pace) -> bool
+        requires { IsSoundPart S.owner_of C.workers part.old }
+        ensures { KeepsPart S.owner_of C.workers part.old part.new }
+    {
+        if !pace.wants_order() {
+            return self.expand_some(part);
+        }
+        part.worker.order_anew();
+        self.expand_some(part)
     }
 
     // Expands boards, as many as a round has at most. Answers whether something was done.
@@ -231,13 +256,13 @@ impl<'a, R: Wait, G: Gate, C: Tokens> Site<'a, R, G, C> {
     }
 }
 
-// The least f of the boards that a worker knows and may expand.
-fn floor_of<S: Spread, C: Tokens>(part: &Part<'_, S, C>) -> u64 {
+// The least f of what waits at a worker below its limit, also of what is out of date.
+fn level_of<S: Spread, C: Tokens>(part: &Part<'_, S, C>) -> u64 {
     let Some(least) = part.worker.lists().least() else {
-        return NO_FLOOR;
+        return NO_LEVEL;
     };
     if least >= part.worker.limit() {
-        return NO_FLOOR;
+        return NO_LEVEL;
     }
     u64::from(least)
 }

@@ -22,8 +22,8 @@ const YIELDING_TURNS: u32 = 8;
 // It sleeps no longer than this, so that no run depends on a waker.
 const SLEEP_MICROSECONDS: u64 = 100;
 
-/// The floor of a worker that has nothing to expand.
-pub(crate) const NO_FLOOR: u64 = u64::MAX;
+/// The level of a worker that has nothing to expand.
+pub(crate) const NO_LEVEL: u64 = u64::MAX;
 
 /// Signs beside the lock of a book and beside the rings: whether the book has stopped, which
 /// workers sleep, and how low their boards are. They prove nothing: a worker that finds the mark
@@ -34,17 +34,17 @@ pub struct Signs {
     stopped: AtomicU64,
     // For each worker whether it sleeps.
     words: [AtomicU64; WORKER_LIMIT],
-    // For each worker its floor: the f below which it has nothing to expand, and was sent nothing.
-    floors: [AtomicU64; WORKER_LIMIT],
+    // For each worker its level, which is about the least f of what it may expand or was sent.
+    levels: [AtomicU64; WORKER_LIMIT],
 }
 
 impl Signs {
-    /// The signs of a run that goes on, whose workers are awake and have nothing to expand.
+    /// The signs of a run that goes on, whose workers are awake and have shown no level.
     pub fn new() -> Self {
         Signs {
             stopped: AtomicU64::new(0),
             words: array::from_fn(|_| AtomicU64::new(AWAKE)),
-            floors: array::from_fn(|_| AtomicU64::new(NO_FLOOR)),
+            levels: array::from_fn(|_| AtomicU64::new(NO_LEVEL)),
         }
     }
 
@@ -73,37 +73,37 @@ impl Signs {
         }
     }
 
-    /// The floor that a worker has.
-    pub(crate) fn floor(&self, worker: usize) -> u64 {
-        let Some(floor) = self.floors.get(worker) else {
-            return NO_FLOOR;
+    /// The level that a worker has.
+    pub(crate) fn level(&self, worker: usize) -> u64 {
+        let Some(level) = self.levels.get(worker) else {
+            return NO_LEVEL;
         };
-        floor.load(Ordering::SeqCst)
+        level.load(Ordering::SeqCst)
     }
 
-    /// The least floor of all workers.
-    pub(crate) fn lowest_floor(&self) -> u64 {
-        let mut lowest = NO_FLOOR;
-        'floors: for floor in &self.floors {
-            lowest = lowest.min(floor.load(Ordering::SeqCst));
+    /// The least level of all workers.
+    pub(crate) fn lowest_level(&self) -> u64 {
+        let mut lowest = NO_LEVEL;
+        'levels: for level in &self.levels {
+            lowest = lowest.min(level.load(Ordering::SeqCst));
         }
         lowest
     }
 
-    /// Gives a worker a floor.
-    pub(crate) fn set_floor(&self, worker: usize, floor: u64) {
-        let Some(word) = self.floors.get(worker) else {
+    /// Gives a worker a level.
+    pub(crate) fn set_level(&self, worker: usize, level: u64) {
+        let Some(word) = self.levels.get(worker) else {
             return;
         };
-        word.store(floor, Ordering::SeqCst);
+        word.store(level, Ordering::SeqCst);
     }
 
-    /// Lowers a worker's floor to that of another worker, which sent it a packet.
-    pub(crate) fn lower_floor(&self, worker: usize, sender: usize) {
-        let floor = self.floor(sender);
-        if floor < self.floor(worker) {
-            self.set_floor(worker, floor);
-        }
+    /// Lowers a worker's level to that of another worker, which sent it a packet.
+    pub(crate) fn lower_level(&self, worker: usize, sender: usize) {
+        let Some(level) = self.levels.get(worker) else {
+            return;
+        };
+        let _ = level.fetch_min(self.level(sender), Ordering::SeqCst);
     }
 
     /// A worker waits a little after a turn without work, the longer the more there were in a row.
