@@ -15,6 +15,7 @@ _tilesolve() {
     --groups) words='none' ;;
     --spread) words='zobrist blank abstract' ;;
     --goal | --workers | --limit | --width | --seconds | --count | --seed | --moves) ;;
+    *[\<\>]) compopt -o default ;;
     tilesolve | */tilesolve) words='solve check show upgrade replay boards --help --version' ;;
     *)
         case ${COMP_WORDS[1]} in
