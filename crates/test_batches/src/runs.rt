@@ -6,9 +6,9 @@ ghost use Rattle.board.specs.Weights.{unit_rule};
 
 use crate::certificates::{BOUND, ONE_MOVE, ONE_MOVE_ONE, SOLVED, THREE_MOVES};
 use batch_cli::{
-    BatchFault, Cause, CertifyFault, CheckFault, Free, LinesFault, Ruled, Setup, Solved, Solver,
-    Stats, Style, Summary, Why, run_batch, run_cert, run_check, run_lines, run_program, run_replay,
-    run_show, run_upgrade,
+    BatchFault, Cause, CertifyFault, CheckFault, Free, Gate, Kind, LinesFault, Ruled, Setup,
+    Solved, Solver, Stats, Style, Summary, Why, run_batch, run_cert, run_check, run_lines,
+    run_program, run_replay, run_show, run_upgrade,
 };
 use board::{Board, Move, Shape, Weights};
 use board_lists::{Choice, list_boards};
@@ -18,6 +18,7 @@ use outcomes::Ending;
 use std::alloc::Global;
 use std::io::ErrorKind;
 use std::sync::Wait;
+use std::sync::atomic::{AtomicU64, Ordering};
 use std::thread::Threads;
 use test_support::{FailingReader, FailingWriter, NEVER};
 
@@ -721,13 +722,28 @@ fn repeated(alloc: Global, lines: &[u8], times: usize) -> Option<Vec<u8>> {
     Some(all)
 }
 
-// What is reported of lines by `workers` workers, where each solves a board alone.
+// A gate that counts the boards that are expanded.
+#[derive(Drop)]
+struct Counter {
+    expanded: AtomicU64,
+}
+
+impl Gate for Counter {
+    fn pass(&self, _worker: usize, kind: Kind) {
+        if kind == Kind::Expand {
+            let _ = self.expanded.fetch_add(1, Ordering::SeqCst);
+        }
+    }
+}
+
+// What is reported of lines by `workers` workers, where each solves a board alone, and how many
+// boards they expand.
 fn reports_by<R: Threads + Wait + Sync>(
     rt: &R,
     alloc: Global,
     held: &Held,
     workers: usize,
-) -> Option<Vec<u8>> {
+) -> Option<(Vec<u8>, u64)> {
     let shape = Shape::new(2, held.cols).ok()?;
     let plain = Setup::new(alloc, Board::goal(shape), Weights::unit(shape));
     let setup = plain.limit(held.limit).workers(workers).ok()?;
@@ -740,11 +756,14 @@ fn reports_with<R: Threads + Wait + Sync>(
     alloc: Global,
     lines: &[u8],
     setup: &Setup,
-) -> Option<Vec<u8>> {
+) -> Option<(Vec<u8>, u64)> {
     let mut source = BufferedSource::new(alloc, lines).ok()?;
     let mut sink = ByteSink::new(Vec::new(alloc));
-    match run_batch(rt, alloc, &mut source, &mut sink, setup, &Free) {
-        Ok(_) => Some(sink.into_inner()),
+    let gate = Counter {
+        expanded: AtomicU64::new(0),
+    };
+    match run_batch(rt, alloc, &mut source, &mut sink, setup, &gate) {
+        Ok(_) => Some((sink.into_inner(), gate.expanded.load(Ordering::SeqCst))),
         Err(_) => None,
     }
 }
