@@ -17,8 +17,8 @@ use world_model::Refusal;
 // time another worker hardly fills more than one packet, and one is taken in from each.
 const EXPANSIONS_IN_A_ROUND: u32 = 16;
 
-// After so many turns in a row without a packet a worker expands boards though others have some of
-// lower f.
+// After this many turns in a row without a packet a worker expands boards though others have some
+// of lower f.
 const PATIENT_TURNS: u32 = 32;
 
 // What is added to the lead where tables are folded.
