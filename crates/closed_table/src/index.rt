@@ -216,6 +216,15 @@ fn find_inside(bucket: &Bucket, slots: &Pages<Slot>, key: u128, hash: u32) -> Op
     None
 }
 
+// The chain of a hash in an index.
+#[inline(always)]
+pub(crate) fn chain_in(index: &Index, hash: u32) -> usize
+    requires indexed { IsIndexInOrder index.now }
+    ensures { result ≡ place index.now.bits (chain_count index.now.len) hash }
+{
+    chain_of(hash, index.bits, chain_count_of(index.len))
+}
+
 // The place of a key among the slots.
 #[inline(always)]
 pub(crate) fn find(index: &Index, key: u128, hash: u32) -> Option<usize>
@@ -224,10 +233,21 @@ pub(crate) fn find(index: &Index, key: u128, hash: u32) -> Option<usize>
     ensures { MatchOption result (HasNoKey index.now key)
         (λ i. (i < index.now.len) × (key_at index.now.slots i ≡ key)) }
 {
+    find_in(index, chain_in(index, hash), key, hash)
+}
+
+// The place of a key among the slots, where the chain of its hash is known.
+#[inline(always)]
+pub(crate) fn find_in(index: &Index, chain: usize, key: u128, hash: u32) -> Option<usize>
+    requires indexed { IsIndexInOrder index.now }
+    requires hash { hash ≡ key_hash key }
+    requires chain { chain ≡ place index.now.bits (chain_count index.now.len) hash }
+    ensures { MatchOption result (HasNoKey index.now key)
+        (λ i. (i < index.now.len) × (key_at index.now.slots i ≡ key)) }
+{
     if index.len == 0 {
         return None;
     }
-    let chain = chain_of(hash, index.bits, chain_count_of(index.len));
     let bucket = index.buckets.at(chain);
     if let Some(inside) = find_inside(bucket, &index.slots, key, hash) {
         return Some(inside);
@@ -408,39 +428,43 @@ fn make_first_chains(index: &mut Index)
     index.bits = FIRST_BITS;
 }
 
-// Makes as many chains as are wanted where a slot is added.
+// Makes as many chains as are wanted where a slot is added. Answers the chain of a hash among them,
+// which was this one before.
 #[inline(always)]
-fn make_chains(index: &mut Index)
-    requires { HasNextChains index.old }
+fn make_chains(index: &mut Index, chain: usize, hash: u32) -> usize
+    requires chains { HasNextChains index.old }
+    requires chain { chain ≡ place index.old.bits (chain_count index.old.len) hash }
+    ensures chain { result ≡ place index.new.bits (chain_count (index.new.len + 1)) hash }
     ensures grown { IsIndexGrown index.old index.new (chain_count (index.old.len + 1)) index.old.len }
     ensures slots { index.new.slots ≡ index.old.slots }
 {
     if index.len == 0 {
         make_first_chains(index);
-        return;
+        return chain_of(hash, index.bits, chain_count_of(index.len + 1));
     }
     if index.len < FIRST_CHAINS * LOAD || index.len % LOAD != 0 {
-        return;
+        return chain;
     }
     let ahead = read_lists(index);
     add_chain(index);
     index.ahead = ahead;
+    chain_of(hash, index.bits, chain_count_of(index.len + 1))
 }
 
-// Adds a slot for a key that has none.
+// Adds a slot for a key that has none. The chain of its hash is known.
 #[inline(always)]
-pub(crate) fn add(index: &mut Index, key: u128, hash: u32, cost: u32, via: Move)
+pub(crate) fn add(index: &mut Index, chain: usize, key: u128, hash: u32, cost: u32, via: Move)
     requires chains { HasNextChains index.old }
     requires place { IsPlace index.old.len (min (length index.old.slots) (length index.old.links)) }
     requires hash { hash ≡ key_hash key }
     requires absent { HasNoKey index.old key }
+    requires chain { chain ≡ place index.old.bits (chain_count index.old.len) hash }
     ensures grown { IsIndexGrown index.old index.new (chain_count index.new.len) (index.old.len + 1) }
     ensures rows { rows_of_slots index.new.slots index.new.len ≡ rows_of_slots index.old.slots index.old.len
         ++ new_row key cost via ∷ [] }
 {
-    make_chains(index);
+    let chain = make_chains(index, chain, hash);
     let place = index.len;
-    let chain = chain_of(hash, index.bits, chain_count_of(place + 1));
     let bucket = index.buckets.at_mut(chain);
     index.links.set(place, bucket.link);
     index.slots.set(place, new_slot(key, cost, via));

@@ -154,14 +154,6 @@ impl Closed {
         self.ahead ^= index::read_ahead(&self.index, key);
     }
 
-    /// Reads ahead what `at` will read of a place. It changes nothing.
-    pub fn read_ahead_at(&mut self, place: usize)
-        requires { place < length self.old.keys }
-        ensures { self.new ≡ self.old }
-    {
-        self.ahead ^= self.index.slots.at(place).cost;
-    }
-
     /// Takes a board that was met at a cost by a last move: it is put in where it was absent or
     /// known at a greater cost, and is not expanded then. Answers the key's place too.
     #[inline(always)]
@@ -172,9 +164,10 @@ impl Closed {
         ensures table { self.new ≡ table_relaxation self.old key cost via }
     {
         let hash = index::hash(key);
-        let Some(place) = index::find(&self.index, key, hash) else {
+        let chain = index::chain_in(&self.index, hash);
+        let Some(place) = index::find_in(&self.index, chain, key, hash) else {
             let place = self.index.len as u32;
-            index::add(&mut self.index, key, hash, cost, via);
+            index::add(&mut self.index, chain, key, hash, cost, via);
             self.room -= 1;
             return (Relaxed::New, place);
         };

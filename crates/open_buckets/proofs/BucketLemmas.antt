@@ -9,7 +9,7 @@ use Rattle.std.proofs.lemmas.List.{take_more, take_all, get_or-set_same, get_or-
 use Rattle.std.proofs.Math.Seq.{map-set_same}
 use Rattle.std.proofs.lemmas.List.Sorted.{Contains-permutation, IsPermutation-sym, IsPermutation-refl, IsPermutation-swap}
 use Rattle.std.proofs.lemmas.Option.{get_or_from_slice_get, slice_get_within}
-use Rattle.open_buckets.specs.OpenLists.{OpenModel, entries_at, places_at, NothingWaits, OthersStay, PutsEntry, TakesEntry, Sorts, BringsLast, IsNextEntry}
+use Rattle.open_buckets.specs.OpenLists.{OpenModel, entries_at, places_at, NothingWaits, OthersStay, PutsEntry, TakesEntry, Sorts, BringsLast, IsLastAt, IsNextEntry}
 use Rattle.open_buckets.specs.Buckets.{list_of}
 
 module _ {K Z : Type 0} where
@@ -173,14 +173,15 @@ module _ {K Z : Type 0} where
   empty_at bs f b lt is none = entries_in bs f b lt ∙ ap (λ (v : Vec (K × ℕ) Z). v.items) (sym is) ∙ nil_from_length b.items (sym b.ok.0 ∙ none)
 
   -- the last item of a bucket
-  pub next_in : (bs : List (Vec (K × ℕ) Z)) (f : ℕ) (b : Vec (K × ℕ) Z) (entry : K × ℕ) → f < length bs → b ≡ get_or bs f b → vec_len b ≢ 0 → entry ≡ get_or b.items (vec_len b - 1) entry → NothingWaits (list_of bs) f → IsNextEntry f entry (list_of bs)
-  next_in bs f b entry lt is some read before =
+  pub last_in : (bs : List (Vec (K × ℕ) Z)) (f : ℕ) (b : Vec (K × ℕ) Z) (entry : K × ℕ) → f < length bs → b ≡ get_or bs f b → vec_len b ≢ 0 → entry ≡ get_or b.items (vec_len b - 1) entry → IsLastAt f entry (list_of bs)
+  last_in bs f b entry lt is some read =
       let size : length b.items ≡ b.len - 1 + 1 = let len = b.ok.0 in omega arith in
       let cut : take (length b.items) b.items ≡ take (b.len - 1) b.items ++ get_or b.items (b.len - 1) entry ∷ [] = ap (λ n. take n b.items) size ∙ take_more b.items (b.len - 1) entry (omega arith) in
-      record {
-        last = (take (b.len - 1) b.items, entries_in bs f b lt ∙ ap (λ (v : Vec (K × ℕ) Z). v.items) (sym is) ∙ sym (take_all (length b.items) b.items (omega arith)) ∙ cut ∙ ap (λ x. take (b.len - 1) b.items ++ x ∷ []) (sym read));
-        least = before;
-      }
+      (take (b.len - 1) b.items, entries_in bs f b lt ∙ ap (λ (v : Vec (K × ℕ) Z). v.items) (sym is) ∙ sym (take_all (length b.items) b.items (omega arith)) ∙ cut ∙ ap (λ x. take (b.len - 1) b.items ++ x ∷ []) (sym read))
+
+  -- it is next where nothing waits below
+  pub next_in : (bs : List (Vec (K × ℕ) Z)) (f : ℕ) (b : Vec (K × ℕ) Z) (entry : K × ℕ) → f < length bs → b ≡ get_or bs f b → vec_len b ≢ 0 → entry ≡ get_or b.items (vec_len b - 1) entry → NothingWaits (list_of bs) f → IsNextEntry f entry (list_of bs)
+  next_in bs f b entry lt is some read before = record { last = last_in bs f b entry lt is some read; least = before }
 
 -- no such entry
 pub none_brought : {K : Type 0} (list : OpenModel K) (f before : ℕ) → length (entries_at list f) ≤ before → BringsLast f before list list

@@ -1,6 +1,6 @@
 -- The laws of open lists.
-use Rattle.std.specs.Prelude.{ℕ, ◌≡◌, ◌≤◌, Contains}
-use Rattle.open_buckets.specs.OpenLists.{OpenModel, entries_at, places_at, PutsEntry, Sorts, TakesEntry, IsNextEntry}
+use Rattle.std.specs.Prelude.{ℕ, ◌≡◌, ◌≤◌, Some, slice_get, Contains, IsPermutation}
+use Rattle.open_buckets.specs.OpenLists.{OpenModel, entries_at, places_at, PutsEntry, Sorts, BringsLast, TakesEntry, IsLastAt, IsNextEntry}
 
 -- the entry that is taken is the next one
 abbrev pub TheNextIsTaken : Type 0 → Type 0
@@ -17,3 +17,11 @@ TheNextWasThere K = (f : ℕ) (next : K × ℕ) (old new : OpenModel K) → Sort
 -- and none of them costs more
 abbrev pub NoneCostsMore : Type 0 → Type 0
 NoneCostsMore K = (f : ℕ) (next other : K × ℕ) (old new : OpenModel K) → Sorts f old new → IsNextEntry f next new → Contains (entries_at old f) other → other.1 ≤ next.1
+
+-- after an entry was made the last one at f, the last one there is that entry
+abbrev pub TheBroughtIsLast : Type 0 → Type 0
+TheBroughtIsLast K = (f before : ℕ) (brought last : K × ℕ) (old new : OpenModel K) → BringsLast f before old new → slice_get (entries_at old f) before ≡ Some brought → IsLastAt f last new → last ≡ brought
+
+-- and at each f the same entries wait, in some order, with as many places
+abbrev pub NoneIsLost : Type 0 → Type 0
+NoneIsLost K = (f before : ℕ) (old new : OpenModel K) → BringsLast f before old new → (h : ℕ) → IsPermutation (entries_at old h) (entries_at new h) × (places_at new h ≡ places_at old h)

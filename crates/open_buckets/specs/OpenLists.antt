@@ -28,6 +28,10 @@ NothingWaits list f = (h : ℕ) → h < f → entries_at list h ≡ []
 abbrev pub OthersStay : {K : Type 0} → ℕ → OpenModel K → OpenModel K → Type 0
 OthersStay f old new = (h : ℕ) → h ≢ f → (entries_at new h ≡ entries_at old h) × (places_at new h ≡ places_at old h)
 
+-- the last entry at f, which is taken there first
+abbrev pub IsLastAt : {K : Type 0} → ℕ → K × ℕ → OpenModel K → Type 0
+IsLastAt {K} f entry list = (rest : List (K × ℕ)) × (entries_at list f ≡ rest ++ entry ∷ [])
+
 -- an entry is added at f, and takes one place at most
 pub record PutsEntry {K : Type 0} (f : ℕ) (entry : K × ℕ) (old new : OpenModel K) : Type 0 where
   pub here : entries_at new f ≡ entries_at old f ++ entry ∷ []

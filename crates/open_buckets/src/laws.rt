@@ -2,7 +2,7 @@
 
 ghost use Rattle.std.specs.Prelude.{◌≡◌, ◌+◌, ◌*◌};
 ghost use Rattle.open_buckets.specs.Laws.{TheNextIsTaken, TheLastPutIsTaken};
-ghost use Rattle.open_buckets.specs.Laws.{TheNextWasThere, NoneCostsMore};
+ghost use Rattle.open_buckets.specs.Laws.{TheNextWasThere, NoneCostsMore, TheBroughtIsLast, NoneIsLost};
 
 use crate::open::GREATEST_F;
 
@@ -21,6 +21,13 @@ pub fn the_last_put_is_taken<K: Copy>()
 pub fn the_dearest_is_next<K: Copy>()
     ensures there { TheNextWasThere K }
     ensures greatest { NoneCostsMore K }
+{}
+
+/// An entry that was made the last one at its f is the last one there, and no entry or place is
+/// lost.
+pub fn the_brought_is_last<K: Copy>()
+    ensures last { TheBroughtIsLast K }
+    ensures same { NoneIsLost K }
 {}
 
 /// The greatest f is a cost of 1,048,320, a move of weight 255, and 24 values of 65,535.

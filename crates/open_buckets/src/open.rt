@@ -1,11 +1,11 @@
 //! Entries in buckets, and a cursor to the lowest of them.
 
 ghost use Rattle.std.specs.Prelude.{◌≡◌, ◌≢◌, ◌<◌, ◌≤◌, ◌+◌, ◌^◌, ℕ, OnOk, OnErr, MatchOption};
-ghost use Rattle.std.specs.Prelude.{IsTrue, ◌↔◌, length, slice_get};
+ghost use Rattle.std.specs.Prelude.{IsTrue, ◌↔◌, [], length, slice_get};
 ghost use Rattle.std.specs.Prelude.{vec_len, vec_capacity};
 ghost use Rattle.open_buckets.specs.OpenLists.{empty_list, entries_at, places_at, NothingWaits};
 ghost use Rattle.open_buckets.specs.OpenLists.{PutsEntry, TakesEntry, Sorts, IsNextEntry, IsLeastF};
-ghost use Rattle.open_buckets.specs.OpenLists.{BringsLast};
+ghost use Rattle.open_buckets.specs.OpenLists.{BringsLast, IsLastAt};
 
 use memory::OutOfMemory;
 use std::alloc::Global;
@@ -161,6 +161,23 @@ impl<K: Copy> Open<K> {
             return None;
         }
         Some(bucket[before])
+    }
+
+    /// The entry at an f that `take_lowest` takes there first; None where there is none.
+    #[inline(always)]
+    pub fn last_at(&self, f: u32) -> Option<(K, u32)>
+        ensures { MatchOption result (entries_at self.now f ≡ [])
+            (λ entry. IsLastAt f entry self.now) }
+    {
+        let place = f as usize;
+        if place >= self.buckets.len() {
+            return None;
+        }
+        let bucket = &self.buckets[place];
+        if bucket.is_empty() {
+            return None;
+        }
+        Some(bucket[bucket.len() - 1])
     }
 
     /// Exchanges the entry at an f with this many before it there, and the last one there. Where

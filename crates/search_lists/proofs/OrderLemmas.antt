@@ -140,17 +140,6 @@ moved_twice old between new first second = record {
   places = λ h. second.places h ∙ first.places h;
 }
 
--- what is next up to the least f is at that f
-pub next_at : (f h : ℕ) (entry : Entry) (list : OpenModel ℕ) → IsLeastF list (Some f) → h < f + 1 → IsNextEntry h entry list → IsNextEntry f entry list
-next_at f h entry list lowest below is =
-    ⊎_elim
-    (λ (here : h ≡ f). subst (λ (k : ℕ). IsNextEntry k entry list) here is)
-    (λ (apart : h ≢ f). absurd (none (subst (λ (xs : List Entry). Contains xs entry) (lowest.1 h (omega (arith, below, apart))) (is_there h entry list is))))
-    (cases_eq h f)
-  where
-    none : Contains [] entry → ⊥
-    none has = omega (arith, has.1)
-
 -- what is read of entries is one of them
 pub entry_has : (entries : List Entry) (before : ℕ) (entry : Entry) → slice_get entries before ≡ Some entry → Contains entries entry
 entry_has entries before entry is = (before, slice_get_within entries before entry is, get_or_from_slice_get entries before entry entry is)

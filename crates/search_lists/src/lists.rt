@@ -72,7 +72,8 @@ struct Batch {
 pub struct SearchLists {
     closed: Closed,
     open: Open<u32>,
-    // The greatest f whose entries were put in order of cost, or 0 where they are put in order anew.
+    // The greatest f whose entries were put in order of cost since the start or since `order_anew`,
+    // and 0 where there is none. The entries at f 0 all cost 0, so they are in order.
     ordered: u32,
     // Whether a goal was met, which is worth a look then.
     goal_met: bool,
@@ -265,15 +266,16 @@ impl SearchLists {
         };
         take_first(&mut self.open, first);
         self.closed.mark_expanded_at(next.place as usize);
-        read_next(&mut self.closed, &self.open, next.f);
     }
 
-    /// Lets `next` put the entries of the least f in order of cost again, also where they were in
-    /// order before. Nothing changes that contracts speak of.
+    /// Lets the next call of `next` put the entries of the least f in order of cost, also where
+    /// entries of this f or of a greater one were put in order before. Those that take turns then
+    /// are chosen anew. Nothing changes that contracts speak of.
     pub fn order_anew(&mut self)
         ensures { self.new ≡ self.old }
     {
         self.ordered = 0;
+        self.batch.left = 0;
     }
 
     /// One of the boards that are taken together with the one that `next` answered last, by how many
@@ -306,20 +308,6 @@ impl SearchLists {
         ensures { self.new ≡ self.old }
     {
         self.closed.read_ahead(key);
-    }
-}
-
-// Reads ahead what is known of the board that waits next, where its f is no greater than this.
-fn read_next(closed: &mut Closed, waiting: &Open<u32>, f: u32)
-    requires { f + 1 < 2 ^ 32 }
-    ensures { closed.new ≡ closed.old }
-{
-    let Some((place, _)) = waiting.peek_lowest(f + 1) else {
-        return;
-    };
-    let place = place as usize;
-    if place < closed.len() {
-        closed.read_ahead_at(place);
     }
 }
 
@@ -454,14 +442,15 @@ fn first_waiting(
         return None;
     }
     bring_turn(waiting, batch, together, f);
-    let Some((place, cost)) = waiting.peek_lowest(f + 1) else {
+    let Some((place, cost)) = waiting.last_at(f) else {
         unreachable!()
     };
     Some(Waiting { f, place, cost })
 }
 
-// The least f of all entries. Where it is greater than each before, its entries are put in order of
-// cost: a board of greater cost is nearer to the goal, so it is taken first.
+// The least f of all entries. Where it is greater than `ordered`, its entries are put in order of
+// cost, so that one of the greatest is the last: of boards of one f, that of the greatest cost has
+// the least sum.
 #[inline(always)]
 fn lowest_in_order(waiting: &mut Open<u32>, ordered: &mut u32) -> Option<u32>
     ensures same { HasEntriesOf waiting.old waiting.new }

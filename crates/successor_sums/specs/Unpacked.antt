@@ -2,7 +2,7 @@
 use Rattle.std.specs.Prelude.{Bool, false, if◌then◌else◌, None, ℕ, ◌≡◌, ◌≤◌, ◌<◌, List, map, slice_index, Option, Some, option_map}
 use Rattle.board.specs.declared.moves.Move.{Move}
 use Rattle.board.specs.Equality.{move_eq}
-use Rattle.board.specs.Shapes.{ShapeModel, cell_count}
+use Rattle.board.specs.Shapes.{ShapeModel, cell_count, column_of, row_of}
 use Rattle.board.specs.Boards.{BoardModel, IsBoard, blank_of}
 use Rattle.board.specs.Weights.{WeightsModel}
 use Rattle.board.specs.Keys.{key_of, HasKey}
@@ -11,6 +11,7 @@ use Rattle.board.specs.Moves.{all_moves, successor}
 use Rattle.lower_bound.specs.declared.bound.TheConstants.{GREATEST_SUM}
 use Rattle.lower_bound.specs.Bounds.{Part, sum_of}
 use Rattle.lower_bound.specs.Slides.{AreCellsOf}
+use Rattle.successor_sums.specs.declared.exits.Place.{Place}
 use Rattle.successor_sums.specs.declared.unpacked.Successor.{Successor}
 use Rattle.successor_sums.specs.declared.unpacked.UnpackedBoard.TheInside.{Inside}
 
@@ -31,6 +32,12 @@ is_left_out (Some back) m = move_eq back m
 -- what each move makes, and nothing of the one that is left out
 abbrev pub but : {A : Type 0} → Option Move → (Move → Option A) → Move → Option A
 but left_out made m = if is_left_out left_out m then None else made m
+
+-- the cell is one of the shape's, and the row and the column are its own
+pub record HasRowAndColumn (place : Place) : Type 0 where
+  pub cell : place.cell < cell_count place.shape
+  pub row : place.row ≡ row_of place.shape place.cell
+  pub column : place.column ≡ column_of place.shape place.cell
 
 -- the key is that of a board of the grid, and so are the tile and the cell; cost and sum are in their ranges
 pub record FitsGrid (grid : ShapeModel) (s : Successor) : Type 0 where

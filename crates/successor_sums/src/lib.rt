@@ -7,7 +7,7 @@
 //!   each number; a tile on a cell is a digit of the key.
 //! - `successors` gives key, moved tile, its cell, cost and sum of each successor, in the order of
 //!   `Move::ALL`, for the checker. Searches take `find_exits` and `ByMoves` from here, and
-//!   successors from `offers`.
+//!   successors from `owners`.
 //! - A `ByMoves` is a list without gaps. `put_if` writes always and counts where the item exists,
 //!   so loops over successors have no branch to mispredict.
 //! - Write lists in place: a list that is returned is copied behind its own byte writes, which

@@ -8,12 +8,12 @@ use Rattle.search_lists.proofs.OrderLemmas.{was_there, order_closed}
 use Rattle.search_lists.proofs.lists.SearchLists.close.Goals as goal
 
 -- what is closed
-closed_is : (c : goal.After-read_next) → c.read_next.new.closed ≡ table_closure c.self.inside.closed c.args.next.key (map.get c.self.inside.closed.known c.args.next.key)
+closed_is : (c : goal.After-mark_expanded_at) → c.mark_expanded_at.new.self ≡ table_closure c.self.inside.closed c.args.next.key (map.get c.self.inside.closed.known c.args.next.key)
 closed_is c =
     let first = subst (λ (s : SearchListsModel). IsFirst s c.args.next) (sym c.self.view_is) c.requires in
-    c.read_next.ensures ∙ c.mark_expanded_at.ensures ∙ ap (λ (key : ℕ). table_closure c.self.inside.closed key (map.get c.self.inside.closed.known key)) (get_or_from_slice_get c.self.inside.closed.keys c.args.next.place c.args.next.key 0 first.place)
+    c.mark_expanded_at.ensures ∙ ap (λ (key : ℕ). table_closure c.self.inside.closed key (map.get c.self.inside.closed.known key)) (get_or_from_slice_get c.self.inside.closed.keys c.args.next.place c.args.next.key 0 first.place)
 
-closed_known : (c : goal.After-read_next) → c.read_next.new.closed ≡ table_closure c.self.inside.closed c.args.next.key (Some c.requires.known.0)
+closed_known : (c : goal.After-mark_expanded_at) → c.mark_expanded_at.new.self ≡ table_closure c.self.inside.closed c.args.next.key (Some c.requires.known.0)
 closed_known c =
     let first = subst (λ (s : SearchListsModel). IsFirst s c.args.next) (sym c.self.view_is) c.requires in
     closed_is c ∙ ap (table_closure c.self.inside.closed c.args.next.key) first.known.1
