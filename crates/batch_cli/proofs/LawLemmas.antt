@@ -23,12 +23,12 @@ use Rattle.table_sets.specs.Built.{AreTrueTables, AreBuilt}
 use Rattle.byte_streams.specs.Streams.{SinkState, Change, SourceState, from_to}
 use Rattle.byte_streams.specs.Sink.{PutsNone, Flushes, Puts, Writes}
 use Rattle.byte_streams.specs.declared.sink.WriteFailed.{WriteFailed}
-use Rattle.option_texts.specs.Defaults.{default_groups}
+use Rattle.batch_lines.specs.Defaults.{default_groups}
 use Rattle.certificate.specs.Certificates.{CertificateModel, upgraded}
 use Rattle.certificate.specs.Spellings.{spelling}
 use Rattle.certificate.specs.Readings.{certificate, IsFirstFormatFault}
 use Rattle.certificate.specs.declared.faults.FormatFault.{FormatFault}
-use Rattle.reports.specs.Reports.{refused_certificate_data, report_text}
+use Rattle.batch_runs.specs.Reports.{refused_certificate_data, report_text}
 use Rattle.batch_lines.specs.Lines.{lines_of}
 use Rattle.replay_runs.specs.Replays.{IsEnd}
 use Rattle.replay_runs.specs.Stepping.{output_of}
@@ -76,7 +76,7 @@ use Rattle.batch_cli.specs.Programs.{ending_of, after_flush, FlushesBehind, IsUn
 use Rattle.batch_cli.specs.declared.faults.BatchFault.TheVariants.{Write}
 use Rattle.batch_cli.specs.Faults.{of_lines, of_certify, of_check, of_upgrade}
 use Rattle.batch_cli.specs.Headline.{IsTrue, IsTrueOf, IsTrueBy, RunsProgram, JudgesTruly, StatesTruth, DrawsTruly, UpgradesTruly, WritesReplay}
-use Rattle.option_texts.specs.declared.faults.GroupsFault.TheVariants as groups
+use Rattle.batch_lines.specs.declared.group_faults.GroupsFault.TheVariants as groups
 use Rattle.batch_runs.specs.declared.faults.LinesFault.TheVariants as lines
 use Rattle.certificate_runs.specs.declared.faults.CertifyFault.TheVariants as certify
 use Rattle.certificate_runs.specs.declared.faults.UpgradeFault.TheVariants as upgrade

@@ -22,7 +22,7 @@ use Rattle.outcomes.specs.Endings.{without_rows}
 use Rattle.outcomes.specs.declared.outcome.Outcome.{Outcome}
 use Rattle.outcomes.specs.declared.outcome.Ending.{Ending as LineEnding}
 use Rattle.batch_runs.specs.declared.stats.Stats.{Stats}
-use Rattle.reports.specs.Reports.{refused_certificate_data, report_text, outcome_data}
+use Rattle.batch_runs.specs.Reports.{refused_certificate_data, report_text, outcome_data}
 use Rattle.replay_runs.specs.Openings.{setup_jobs}
 use Rattle.replay_runs.specs.Replays.{Jobs, IsEnd, RefusesFirst}
 use Rattle.replay_runs.specs.Replies.{Reply, are_fine, replay_status_of}

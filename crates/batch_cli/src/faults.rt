@@ -3,10 +3,9 @@
 ghost use Rattle.std.specs.Prelude.{◌≡◌};
 ghost use Rattle.batch_cli.specs.Faults.{batch_code};
 
-use batch_runs::LinesFault;
+use batch_runs::{LinesFault, NoReport};
 use certificate_runs::{CertifyFault, CheckFault, UpgradeFault};
 use memory::OutOfMemory;
-use reports::NoReport;
 use thiserror::Error;
 
 /// Why a run of any kind ended early.

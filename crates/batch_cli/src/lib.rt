@@ -29,7 +29,9 @@ pub use batch_lines::{
     Entry, EntryFault, INPUT_LIMIT, LINE_LIMIT, Line, LineKind, LineReader, read_entry,
 };
 pub use batch_runs::{
-    LinesFault, Ruled, Setup, Solved, Solver, SpreadKind, Stats, Summary, run_lines, stats_text,
+    LinesFault, NoReport, Ruled, Setup, Solved, Solver, SpreadKind, Stats, Summary,
+    accepted_bound_report, accepted_report, outcome_report, refused_certificate_report,
+    refused_report, run_lines, stats_text,
 };
 pub use certificate_runs::{
     CertifyFault, CheckFault, ProofRuled, Prover, UpgradeFault, certify_first, run_check, run_show,
@@ -44,8 +46,4 @@ pub use outcomes::{Cause, Outcome, SolveFault, Want, Why};
 pub use owners::Spread;
 pub use program::{run_program, run_with_progress};
 pub use replay_runs::{Opener, Run, replay_lines, run_replay};
-pub use reports::{
-    NoReport, accepted_bound_report, accepted_report, outcome_report, refused_certificate_report,
-    refused_report,
-};
 pub use setup_runs::{Watch, run_batch, run_cert};

@@ -2,3 +2,6 @@ pub mod LineLemmas
 pub mod WordLemmas
 pub mod FaultLemmas
 pub mod LawLemmas
+pub mod TextLemmas
+pub mod CostLemmas
+pub mod OptionLawLemmas

@@ -4,3 +4,7 @@ pub mod Starts
 pub mod Words
 pub mod TileNumbers
 pub mod Laws
+pub mod Texts
+pub mod GroupFaults
+pub mod Defaults
+pub mod OptionLaws

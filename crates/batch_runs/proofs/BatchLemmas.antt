@@ -35,10 +35,10 @@ use Rattle.serde_json.specs.Find.{as_str}
 use Rattle.serde_json.specs.Data.{Data}
 use Rattle.serde_json.specs.Read.{read}
 use Rattle.serde_json.specs.Written.{compact_text}
-use Rattle.reports.specs.Reports.{outcome_data, refused_data}
-use Rattle.reports.specs.Readings.{IsReport, IsSmall, HasSmallNumbers, Reads, HasStatus}
-use Rattle.reports.specs.Readings.IsReport.{of_outcome, of_line}
-use Rattle.reports.proofs.ReadLemmas.{report_read}
+use Rattle.batch_runs.specs.Reports.{outcome_data, refused_data}
+use Rattle.batch_runs.specs.ReportReadings.{IsReport, IsSmall, HasSmallNumbers, Reads, HasStatus}
+use Rattle.batch_runs.specs.ReportReadings.IsReport.{of_outcome, of_line}
+use Rattle.batch_runs.proofs.ReadLemmas.{report_read}
 use Rattle.serde_json.specs.Find.{get}
 use Rattle.batch_lines.specs.Lines.{is_passed_over, line_kind_of}
 use Rattle.batch_lines.specs.Words.{IsEntry}

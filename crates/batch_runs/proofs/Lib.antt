@@ -1,3 +1,5 @@
 pub mod TruthLemmas
 pub mod BatchLemmas
 pub mod FindingLemmas
+pub mod TextLemmas
+pub mod ReadLemmas

@@ -33,11 +33,11 @@ use Rattle.batch_lines.specs.declared.words.EntryFault.TheVariants.{NoText, NoBo
 use Rattle.batch_lines.specs.declared.lines.LineKind.{LineKind}
 use Rattle.batch_lines.specs.declared.lines.LineKind.TheVariants.{PassedOver, Within, TooLong}
 use Rattle.batch_lines.specs.declared.lines.TheConstants.{LINE_LIMIT}
-use Rattle.reports.specs.Reports.{outcome_data, refused_data, report_text, letters_of, best_data}
-use Rattle.reports.specs.Readings.{IsSmall, HasSmallNumbers, IsReport, HasStatus, Reads}
-use Rattle.reports.specs.Readings.IsReport.{of_outcome, of_line}
-use Rattle.reports.proofs.ReadLemmas.{report_read}
-use Rattle.reports.proofs.TextLemmas.{text_other}
+use Rattle.batch_runs.specs.Reports.{outcome_data, refused_data, report_text, letters_of, best_data}
+use Rattle.batch_runs.specs.ReportReadings.{IsSmall, HasSmallNumbers, IsReport, HasStatus, Reads}
+use Rattle.batch_runs.specs.ReportReadings.IsReport.{of_outcome, of_line}
+use Rattle.batch_runs.proofs.ReadLemmas.{report_read}
+use Rattle.batch_runs.proofs.TextLemmas.{text_other}
 use Rattle.batch_runs.specs.Meanings.{Names, HasFault, asks, questions, IsQuestion, IsReply, SaysLeast, SaysNone, SaysBound, SaysRefused, AreAllDecided}
 use Rattle.batch_runs.specs.Batches.{Rules, IsTruthful, Answer, AnswersEntry, AnswersKind, AnswersLine, AnswersLines, answer_text, answers_text, with_answer, with_answers, no_lines, status_of_counts}
 use Rattle.batch_runs.specs.Batches.Answer.{passed_over, refused, answered}

@@ -13,8 +13,8 @@ use Rattle.batch_lines.specs.declared.words.EntryFault.{EntryFault}
 use Rattle.batch_lines.specs.declared.lines.LineKind.{LineKind}
 use Rattle.batch_lines.specs.declared.lines.LineKind.TheVariants.{PassedOver, Within, TooLong}
 use Rattle.batch_lines.specs.declared.lines.TheConstants.{INPUT_LIMIT}
-use Rattle.reports.specs.Readings.{HasSmallNumbers}
-use Rattle.reports.specs.Reports.{outcome_data, refused_data, report_text}
+use Rattle.batch_runs.specs.ReportReadings.{HasSmallNumbers}
+use Rattle.batch_runs.specs.Reports.{outcome_data, refused_data, report_text}
 use Rattle.outcomes.specs.declared.outcome.Ending.{Ending}
 use Rattle.outcomes.specs.Outcomes.{Task}
 use Rattle.outcomes.specs.Endings.{EndAnswers}

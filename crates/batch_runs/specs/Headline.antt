@@ -6,7 +6,7 @@ use Rattle.byte_streams.specs.Streams.{SourceState, SinkState, Change}
 use Rattle.byte_streams.specs.Sink.{Puts, PutsBeginning}
 use Rattle.batch_lines.specs.Lines.{lines_of}
 use Rattle.outcomes.specs.Outcomes.{Task}
-use Rattle.reports.specs.Readings.{SaysText, HasStatus}
+use Rattle.batch_runs.specs.ReportReadings.{SaysText, HasStatus}
 use Rattle.batch_runs.specs.Batches.{Rules, IsTruthful, Answer, AnswersLines, answers_text, AreAll, AreFirst, status_of_counts}
 use Rattle.batch_runs.specs.Meanings.{questions, IsQuestion, Names, HasFault, IsReply, SaysLeast, SaysNone, SaysBound, SaysRefused, AreAllDecided}
 use Rattle.batch_runs.specs.declared.batch.Summary.{Summary}

@@ -8,8 +8,8 @@ use Rattle.outcomes.specs.declared.outcome.Cause.{Cause}
 use Rattle.outcomes.specs.declared.outcome.Why.{Why}
 use Rattle.outcomes.specs.declared.outcome.Ending.{Ending}
 use Rattle.outcomes.specs.declared.outcome.Ending.TheVariants.{Optimal, Unsolvable, Bounded}
-use Rattle.reports.specs.Reports.{outcome_data, refused_data}
-use Rattle.reports.specs.Readings.{Reads}
+use Rattle.batch_runs.specs.Reports.{outcome_data, refused_data}
+use Rattle.batch_runs.specs.ReportReadings.{Reads}
 use Rattle.std.specs.Str.{bytes_eq}
 use Rattle.serde_json.specs.Data.{Data}
 use Rattle.serde_json.specs.Find.{get, as_str}

@@ -6,3 +6,6 @@ pub mod Meanings
 pub mod Headline
 pub mod Laws
 pub mod Stats
+pub mod Reports
+pub mod ReportReadings
+pub mod ReportLaws

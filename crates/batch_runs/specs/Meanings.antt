@@ -13,8 +13,8 @@ use Rattle.outcomes.specs.Outcomes.{Task, IsBestPlan, AllowsWhy, AllowsCause}
 use Rattle.outcomes.specs.Words.{why_word, cause_word}
 use Rattle.outcomes.specs.declared.outcome.Why.{Why}
 use Rattle.outcomes.specs.declared.outcome.Cause.{Cause}
-use Rattle.reports.specs.Reports.{letters_of, best_data}
-use Rattle.reports.specs.Readings.{Reads, Says, SaysText, SaysNumber, HasStatus}
+use Rattle.batch_runs.specs.Reports.{letters_of, best_data}
+use Rattle.batch_runs.specs.ReportReadings.{Reads, Says, SaysText, SaysNumber, HasStatus}
 
 -- ---- what the lines of an input ask
 

@@ -11,12 +11,12 @@ ghost use Rattle.batch_runs.specs.Batches.{answer_text, with_answer};
 ghost use Rattle.batch_runs.specs.Stats.{HandsOver};
 
 use crate::batch::Summary;
+use crate::report::{NoReport, outcome_report, refused_report};
 use crate::stats::Solved;
 use batch_lines::{EntryFault, Line, LineKind, read_entry};
 use board::{Board, Shape};
 use memory::OutOfMemory;
 use outcomes::SolveFault;
-use reports::{NoReport, outcome_report, refused_report};
 use std::alloc::Global;
 use std::marker::Model;
 

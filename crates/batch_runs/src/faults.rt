@@ -3,7 +3,7 @@
 ghost use Rattle.std.specs.Prelude.{◌≡◌};
 ghost use Rattle.batch_runs.specs.Faults.{lines_code};
 
-use reports::NoReport;
+use crate::report::NoReport;
 use thiserror::Error;
 
 /// Why a run over lines ended early.

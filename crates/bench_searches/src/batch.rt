@@ -5,12 +5,12 @@
 //! optimal, unsolvable, bounded and refused, and how many boards were expanded for them. To count
 //! these takes time, so `uncounted` leaves it out, and 0 is printed.
 
+use batch_lines::default_groups;
 use batch_runs::{Setup, SpreadKind, Summary};
 use board::{Board, Shape, Weights};
 use byte_streams::{BufferedSource, ByteSink, Sink, Source};
 use hda_run::{Free, Gate, Kind};
 use memory::OutOfMemory;
-use option_texts::default_groups;
 use setup_runs::run_batch;
 use std::alloc::Global;
 use std::array;

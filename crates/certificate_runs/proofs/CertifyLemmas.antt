@@ -35,9 +35,9 @@ use Rattle.batch_lines.specs.declared.words.EntryFault.{EntryFault}
 use Rattle.batch_lines.specs.declared.lines.Line.{Line}
 use Rattle.batch_lines.specs.declared.lines.LineKind.{LineKind}
 use Rattle.batch_lines.specs.declared.lines.LineKind.TheVariants.{PassedOver, Within, TooLong}
-use Rattle.reports.specs.declared.report.NoReport.{NoReport}
-use Rattle.reports.specs.Readings.{HasSmallNumbers}
-use Rattle.reports.specs.Reports.{outcome_data, report_text}
+use Rattle.batch_runs.specs.declared.report.NoReport.{NoReport}
+use Rattle.batch_runs.specs.ReportReadings.{HasSmallNumbers}
+use Rattle.batch_runs.specs.Reports.{outcome_data, report_text}
 use Rattle.certificate.specs.declared.certificate.Version.{Version}
 use Rattle.certificate.specs.declared.certificate.Version.TheVariants.{One, Two}
 use Rattle.certificate.specs.Certificates.{CertificateModel, AreCostsOf, IsBoardOf, IsCertificate, IsWithinLimit, greatest}

@@ -20,11 +20,11 @@ use Rattle.batch_lines.specs.Lines.{lines_of, line_kind_of, without_return}
 use Rattle.batch_lines.specs.Words.{entry_code}
 use Rattle.batch_lines.specs.declared.lines.LineKind.{LineKind}
 use Rattle.batch_lines.specs.declared.lines.LineKind.TheVariants.{PassedOver, TooLong, Within}
-use Rattle.reports.specs.Readings.{HasSmallNumbers, HasStatus, IsReport, Reads}
-use Rattle.reports.specs.Readings.IsReport.{of_outcome, of_line, of_certificate}
-use Rattle.reports.proofs.ReadLemmas.{report_read}
-use Rattle.reports.proofs.TextLemmas.{text_other}
-use Rattle.reports.specs.Reports.{outcome_data, refused_data, refused_certificate_data, report_text}
+use Rattle.batch_runs.specs.ReportReadings.{HasSmallNumbers, HasStatus, IsReport, Reads}
+use Rattle.batch_runs.specs.ReportReadings.IsReport.{of_outcome, of_line, of_certificate}
+use Rattle.batch_runs.proofs.ReadLemmas.{report_read}
+use Rattle.batch_runs.proofs.TextLemmas.{text_other}
+use Rattle.batch_runs.specs.Reports.{outcome_data, refused_data, refused_certificate_data, report_text}
 use Rattle.certificate.specs.Certificates.{CertificateModel, upgraded}
 use Rattle.certificate.specs.Readings.{certificate, HasNoFault, IsFirstFormatFault}
 use Rattle.certificate.specs.Laws.{TellsOfBytes}

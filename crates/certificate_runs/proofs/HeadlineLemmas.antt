@@ -32,11 +32,11 @@ use Rattle.batch_lines.specs.declared.lines.LineKind.{LineKind}
 use Rattle.batch_lines.specs.declared.lines.LineKind.TheVariants.{PassedOver, TooLong, Within}
 use Rattle.batch_lines.specs.Words.{entry_code}
 use Rattle.batch_lines.specs.Lines.{line_kind_of, without_return, lines_of, onto_first, is_passed_over}
-use Rattle.reports.specs.Reports.{outcome_data, refused_data, accepted_data, accepted_bound_data, refused_certificate_data, report_text}
-use Rattle.reports.specs.Readings.{HasSmallNumbers, HasStatus, IsReport, IsSmall, SaysText, SaysNumber}
-use Rattle.reports.specs.Readings.IsReport.{of_outcome, of_line, of_cost, of_bound, of_certificate}
-use Rattle.reports.proofs.ReadLemmas.{report_read}
-use Rattle.reports.proofs.TextLemmas.{text_other}
+use Rattle.batch_runs.specs.Reports.{outcome_data, refused_data, accepted_data, accepted_bound_data, refused_certificate_data, report_text}
+use Rattle.batch_runs.specs.ReportReadings.{HasSmallNumbers, HasStatus, IsReport, IsSmall, SaysText, SaysNumber}
+use Rattle.batch_runs.specs.ReportReadings.IsReport.{of_outcome, of_line, of_cost, of_bound, of_certificate}
+use Rattle.batch_runs.proofs.ReadLemmas.{report_read}
+use Rattle.batch_runs.proofs.TextLemmas.{text_other}
 use Rattle.certificate.specs.Certificates.{CertificateModel, greatest, upgraded}
 use Rattle.certificate.specs.Readings.{Reading, certificate, IsFirstFormatFault}
 use Rattle.certificate.specs.declared.faults.FormatFault.{FormatFault}

@@ -6,7 +6,7 @@ use Rattle.byte_streams.specs.Sink.{WritesAll, FailsWriting}
 use Rattle.serde_json.specs.Data.{Data}
 use Rattle.board.specs.declared.moves.Move.{Move}
 use Rattle.board.specs.Plans.{NothingBelow, IsLeast}
-use Rattle.reports.specs.Reports.{accepted_data, accepted_bound_data, refused_certificate_data, report_text}
+use Rattle.batch_runs.specs.Reports.{accepted_data, accepted_bound_data, refused_certificate_data, report_text}
 use Rattle.certificate.specs.declared.faults.ReadFault.{ReadFault}
 use Rattle.certificate.specs.declared.faults.ReadFault.TheVariants.{Format, Failed, NoMemory}
 use Rattle.certificate.specs.Certificates.{CertificateModel}

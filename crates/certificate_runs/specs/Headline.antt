@@ -12,8 +12,8 @@ use Rattle.outcomes.specs.Outcomes.{Task}
 use Rattle.outcomes.specs.declared.outcome.Cause.TheVariants.{Memory}
 use Rattle.outcomes.specs.declared.outcome.Want.TheVariants.{Refused}
 use Rattle.outcomes.specs.declared.outcome.Outcome.TheVariants.{Bounded}
-use Rattle.reports.specs.Readings.{Reads, SaysText, SaysNumber, HasStatus}
-use Rattle.reports.specs.Reports.{refused_certificate_data, report_text}
+use Rattle.batch_runs.specs.ReportReadings.{Reads, SaysText, SaysNumber, HasStatus}
+use Rattle.batch_runs.specs.Reports.{refused_certificate_data, report_text}
 use Rattle.certificate.specs.Certificates.{CertificateModel, upgraded}
 use Rattle.certificate.specs.declared.certificate.Version.TheVariants.{Two}
 use Rattle.certificate.specs.Spellings.{spelling}

@@ -1,7 +1,7 @@
 -- The laws of the definitions. Each is the contract of a function that does nothing.
 use Rattle.std.specs.Prelude.{ℕ, ◌≡◌, ◌≢◌, ◌≤◌, ◌⊎◌, ◌↔◌, true, false, List, [], ◌∷◌, ◌++◌, length, Option, None, Some, IsSome, Result, Ok, Err, Vec, codes}
 use Rattle.std.specs.declared.alloc.Global.{Global}
-use Rattle.reports.specs.declared.report.NoReport.{NoReport}
+use Rattle.batch_runs.specs.declared.report.NoReport.{NoReport}
 use Rattle.board.specs.declared.moves.Move.{Move}
 use Rattle.outcomes.specs.declared.outcome.Cause.{Cause}
 use Rattle.outcomes.specs.declared.outcome.Ending.{Ending}
@@ -15,8 +15,8 @@ use Rattle.outcomes.specs.Endings.{without_rows}
 use Rattle.outcomes.specs.Outcomes.{Task, StandsAlone}
 use Rattle.memory.specs.declared.OutOfMemory.{OutOfMemory}
 use Rattle.serde_json.specs.Data.{Data}
-use Rattle.reports.specs.Readings.{Reads, SaysText, SaysNumber, HasStatus}
-use Rattle.reports.specs.Reports.{accepted_data, accepted_bound_data, refused_certificate_data, report_text}
+use Rattle.batch_runs.specs.ReportReadings.{Reads, SaysText, SaysNumber, HasStatus}
+use Rattle.batch_runs.specs.Reports.{accepted_data, accepted_bound_data, refused_certificate_data, report_text}
 use Rattle.batch_lines.specs.Words.{IsEntry}
 use Rattle.batch_lines.specs.Lines.{lines_of}
 use Rattle.batch_lines.specs.declared.lines.TheConstants.{INPUT_LIMIT}

@@ -7,7 +7,7 @@ ghost use Rattle.byte_streams.specs.Streams.{change};
 ghost use Rattle.byte_streams.specs.Sink.{Writes};
 ghost use Rattle.outcomes.specs.Outcomes.{Answers};
 ghost use Rattle.outcomes.specs.Endings.{without_rows};
-ghost use Rattle.reports.specs.declared.report.NoReport.{NoReport};
+ghost use Rattle.batch_runs.specs.declared.report.NoReport.{NoReport};
 ghost use Rattle.batch_lines.specs.declared.lines.LineKind.TheVariants.{PassedOver, Within};
 ghost use Rattle.certificate.specs.Certificates.{IsBoardOf, cost_of, plan_of};
 ghost use Rattle.certificate.specs.Spellings.{spelling};
@@ -25,7 +25,7 @@ ghost use Rattle.certificate_runs.specs.Built.{HasSmallEntries, HasSmallFolds, H
 
 use crate::faults::CertifyFault;
 use batch_lines::{EntryFault, Line, LineKind, LineReader, read_entry};
-use batch_runs::{Setup, find_line, send_report};
+use batch_runs::{Setup, find_line, outcome_report, refused_report, send_report};
 use board::laws::keys_are_in_order;
 use board::{Board, Move};
 use byte_streams::{Sink, Source};
@@ -34,7 +34,6 @@ use database_build::{Folded, Table};
 use lower_bound::{Bound, TableList};
 use memory::OutOfMemory;
 use outcomes::{Ending, Outcome, SolveFault};
-use reports::{outcome_report, refused_report};
 use std::alloc::Global;
 
 /// Rules of how boards are answered where rows are asked for.

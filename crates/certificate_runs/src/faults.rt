@@ -3,8 +3,8 @@
 ghost use Rattle.std.specs.Prelude.{◌≡◌};
 ghost use Rattle.certificate_runs.specs.Faults.{certify_code, check_code, upgrade_code};
 
+use batch_runs::NoReport;
 use memory::OutOfMemory;
-use reports::NoReport;
 use thiserror::Error;
 
 /// Why a run that writes a certificate ended early.

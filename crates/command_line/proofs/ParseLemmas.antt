@@ -40,13 +40,13 @@ use Rattle.board.specs.Weights.{WeightsModel, unit_rule}
 use Rattle.board.specs.declared.faults.TilesFault.{TilesFault}
 use Rattle.board.specs.declared.faults.WeightsFault.{WeightsFault}
 use Rattle.pattern_index.specs.Partitions.{PartitionModel, IsPartition}
-use Rattle.option_texts.specs.Texts.{group_texts, AreGroupsOf}
-use Rattle.option_texts.specs.Faults.{IsFirstGroupsFault}
-use Rattle.option_texts.specs.Laws.{IsMemoryRefusal}
-use Rattle.option_texts.specs.declared.faults.GroupsFault.{GroupsFault}
-use Rattle.option_texts.proofs.TextLemmas.{one_goal, no_goal_fault}
-use Rattle.option_texts.proofs.CostLemmas.{one_rule, no_costs_fault}
-use Rattle.option_texts.proofs.LawLemmas.{no_groups_fault}
+use Rattle.batch_lines.specs.Texts.{group_texts, AreGroupsOf}
+use Rattle.batch_lines.specs.GroupFaults.{IsFirstGroupsFault}
+use Rattle.batch_lines.specs.OptionLaws.{IsMemoryRefusal}
+use Rattle.batch_lines.specs.declared.group_faults.GroupsFault.{GroupsFault}
+use Rattle.batch_lines.proofs.TextLemmas.{one_goal, no_goal_fault}
+use Rattle.batch_lines.proofs.CostLemmas.{one_rule, no_costs_fault}
+use Rattle.batch_lines.proofs.OptionLawLemmas.{no_groups_fault}
 use Rattle.command_line.specs.declared.requests.Options.{Options}
 use Rattle.command_line.specs.Laws.{IsWant, SearchesAreSaid, OptionsAreDetermined, ListingsAreDetermined, StylesAreDetermined, CertIsSaid, TextsAreOfFaults, UsageIsOfFaults, command_of, RequestsAreOfTheirCommands, RunsAreSaid, RunsWithoutBoardsAreAsked, RefusalsAreOfOptions, ListingsAreJudgedBeforeGoals, ChoicesAreThree, RunsHaveNoFault, OthersAreNoMatch, NumbersAreDecimal}
 use Rattle.command_line.specs.Worked.{IsOutOfMemory, IsPlainSearch, WordsAskOneThing, WordsAreNotRefused}

@@ -66,7 +66,7 @@ puzzle_app spreads name =
 abbrev pub solve_app : Choices → App
 solve_app spreads = with_rule (with_rule (with_rule (puzzle_app spreads (codes "solve")) (flag_rule (codes "cert"))) (flag_rule (codes "progress"))) (flag_rule (codes "stats"))
 
--- the subcommand `show`: columns of the text, whether an SVG file is written, and the seconds of a move there
+-- the subcommand `show`: columns for boards, whether an SVG file is written, and the seconds of a move there
 abbrev pub show_app : App
 show_app = with_rule (with_rule (with_rule (new_app (codes "show")) (number_rule (codes "width") 20 1000 (codes "80"))) (flag_rule (codes "svg"))) (number_rule (codes "seconds") 1 60 (codes "1"))
 

@@ -1,8 +1,8 @@
 -- Why arguments ask for nothing: the status that each reason ends the program by, and the code that it is reported by.
 use Rattle.std.specs.Prelude.{ℕ, List, [], ◌∷◌, ◌++◌, codes, string_bytes}
 use Rattle.board.specs.Faults.{tiles_code, weights_code}
-use Rattle.option_texts.specs.Faults.{groups_code}
-use Rattle.option_texts.specs.declared.faults.GroupsFault.TheVariants as groups
+use Rattle.batch_lines.specs.GroupFaults.{groups_code}
+use Rattle.batch_lines.specs.declared.group_faults.GroupsFault.TheVariants as groups
 use Rattle.command_line.specs.declared.faults.NoRequest.{NoRequest}
 use Rattle.command_line.specs.declared.faults.NoRequest.TheVariants.{Usage, Goal, Costs, Groups, NoListing, Memory, NoMatch}
 use Rattle.command_line.specs.declared.faults.ListFault.{ListFault}

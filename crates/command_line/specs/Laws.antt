@@ -12,8 +12,8 @@ use Rattle.board.specs.declared.faults.TilesFault.{TilesFault}
 use Rattle.board.specs.declared.faults.WeightsFault.{WeightsFault}
 use Rattle.drawings.specs.declared.drawing.Style.{Style}
 use Rattle.pattern_index.specs.Partitions.{IsPartition}
-use Rattle.option_texts.specs.Laws.{IsMemoryRefusal}
-use Rattle.option_texts.specs.declared.faults.GroupsFault.{GroupsFault}
+use Rattle.batch_lines.specs.OptionLaws.{IsMemoryRefusal}
+use Rattle.batch_lines.specs.declared.group_faults.GroupsFault.{GroupsFault}
 use Rattle.command_line.specs.declared.requests.Options.{Options}
 use Rattle.command_line.specs.declared.requests.Listing.{Listing}
 use Rattle.command_line.specs.declared.requests.Request.{Request}

@@ -11,11 +11,11 @@ use Rattle.pattern_index.specs.Partitions.{PartitionModel}
 use Rattle.batch_lines.specs.Words.{IsFirstWordFault}
 use Rattle.batch_runs.specs.declared.setup.SpreadKind.{SpreadKind}
 use Rattle.batch_runs.specs.declared.setup.SpreadKind.TheVariants.{Zobrist, Blank, Abstract}
-use Rattle.option_texts.specs.Texts.{comma_words, IsGoalOf, SaysCosts, group_texts, AreGroupsOf}
-use Rattle.option_texts.specs.Faults.{IsFirstCostsFault, IsFirstGroupsFault}
-use Rattle.option_texts.specs.Defaults.{default_groups}
-use Rattle.option_texts.specs.Laws.{IsMemoryRefusal}
-use Rattle.option_texts.specs.declared.faults.GroupsFault.{GroupsFault}
+use Rattle.batch_lines.specs.Texts.{comma_words, IsGoalOf, SaysCosts, group_texts, AreGroupsOf}
+use Rattle.batch_lines.specs.GroupFaults.{IsFirstCostsFault, IsFirstGroupsFault}
+use Rattle.batch_lines.specs.Defaults.{default_groups}
+use Rattle.batch_lines.specs.OptionLaws.{IsMemoryRefusal}
+use Rattle.batch_lines.specs.declared.group_faults.GroupsFault.{GroupsFault}
 use Rattle.board.specs.declared.faults.TilesFault.{TilesFault}
 use Rattle.board.specs.declared.faults.WeightsFault.{WeightsFault}
 use Rattle.command_line.specs.declared.requests.Options.{Options}

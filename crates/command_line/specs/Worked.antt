@@ -4,7 +4,7 @@ use Rattle.clap.specs.Words.{fault_of, kind_of}
 use Rattle.clap.specs.declared.error.kind.ErrorKind.TheVariants.{ValueValidation, ArgumentConflict, UnknownArgument, DisplayHelp, DisplayVersion, OutOfMemory}
 use Rattle.clap.specs.declared.error.Error.{Error}
 use Rattle.command_line.specs.Commands.{Choices, program_app}
-use Rattle.option_texts.specs.Laws.{IsMemoryRefusal}
+use Rattle.batch_lines.specs.OptionLaws.{IsMemoryRefusal}
 use Rattle.command_line.specs.Requests.{WordsAsk, WordsFail}
 use Rattle.command_line.specs.declared.faults.NoRequest.{NoRequest}
 use Rattle.command_line.specs.declared.faults.NoRequest.TheVariants.{Groups, Memory}

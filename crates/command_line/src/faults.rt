@@ -2,13 +2,13 @@
 
 ghost use Rattle.std.specs.Prelude.{◌≡◌};
 ghost use Rattle.board.specs.Faults.{tiles_code, weights_code};
-ghost use Rattle.option_texts.specs.Faults.{groups_code};
+ghost use Rattle.batch_lines.specs.GroupFaults.{groups_code};
 ghost use Rattle.pattern_index.specs.Faults.{group_code, partition_code};
 ghost use Rattle.command_line.specs.Faults.{refusal_status, refusal_message, coded_line, list_line};
 
+use batch_lines::GroupsFault;
 use board::{TilesFault, WeightsFault};
 use clap::Error;
-use option_texts::GroupsFault;
 use pattern_index::{GroupFault, PartitionFault};
 
 /// Why no boards can be listed.

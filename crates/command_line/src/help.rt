@@ -68,11 +68,7 @@ Codes of a refused line and of --goal:
   E2   wrong number of tiles
   E3   a tile is not a number below the number of cells
   E4   duplicate tile
-  E12  the line is longer than 1024 bytes or not UTF-8
-  V3   out of memory before the search starts
-Codes of --cost:
-  E13  not unit, face or one weight for each tile
-  E14  a weight is not a number from 1 to 255
+
 Codes of --groups:
   E5   empty group
   E6   not a tile
@@ -80,6 +76,14 @@ Codes of --groups:
   E8   a group has more than 67108864 views
   E9   two groups share a tile
   E10  more than 24 groups
+
+Codes of --cost:
+  E13  not unit, face or one weight for each tile
+  E14  a weight is not a number from 1 to 255
+
+Codes of a refused line alone:
+  E12  the line is longer than 1024 bytes or not UTF-8
+  V3   out of memory before the search starts
 
 Formats: CLI.md, in docs or share/doc/tilesolve";
 
@@ -89,8 +93,8 @@ pub(crate) const CHECK: &str = "Check a certificate";
 /// The same in detail.
 pub(crate) const CHECK_LONG: &str = "\
 Check that the certificate on standard input proves its claim: that its plan is optimal, or that no
-plan costs less than its bound. The check trusts nothing of the run that wrote the
-certificate, and builds the pattern databases of the certificate's groups itself.";
+plan costs less than its bound. The check trusts nothing of the run that wrote the certificate, and
+builds the pattern databases of the certificate's groups itself.";
 
 /// Examples of `check`, its statuses, and where its formats are described.
 pub(crate) const CHECK_AFTER: &str = "\
@@ -186,8 +190,8 @@ pub(crate) const BOARDS: &str = "List boards to solve";
 
 /// The same in detail.
 pub(crate) const BOARDS_LONG: &str = "\
-List boards with a plan to the goal, as the lines that solve reads: drawn uniformly, reached by walks
-from the goal (--moves), or all of them (--all). Nothing is read.";
+List boards with a plan to the goal, as lines for solve: drawn uniformly, reached by walks from the
+goal (--moves), or all of them (--all). Nothing is read.";
 
 /// Examples of `boards`, its statuses, and where its formats are described.
 pub(crate) const BOARDS_AFTER: &str = "\
@@ -198,8 +202,9 @@ Examples:
 
 Exit status:
   0  the boards are listed
-  2  invalid arguments, including the value of --goal (E2 to E4) and --all with --count or --moves
+  2  invalid arguments, a fault of --goal (E2 to E4), or --all with --count, --moves or over 9 cells
   3  standard output can't be written (B2)
+  4  out of memory (memory)
 
 Format: CLI.md, in docs or share/doc/tilesolve";
 
@@ -211,22 +216,23 @@ pub(crate) const COLS: &str = "Columns of each board, 2 to 5";
 
 /// The option `--cost`.
 pub(crate) const COST: &str = "\
-Cost of a move: unit (1), face (the number on the tile), or a weight from 1 to 255 for each
-tile, such as 3,1,2";
+Cost of a move: unit (1), face (the number on the tile), or a weight from 1
+to 255 for each tile, such as 3,1,2";
 
 /// The option `--goal`.
 pub(crate) const GOAL: &str = "Tiles of the goal, row by row, such as 1,2,3,0 [default: 0,1,2, ..]";
 
 /// The option `--groups`.
 pub(crate) const GROUPS: &str = "\
-Groups of tiles, each with a pattern database, such as 1,2/3, or none [default: the tiles in
-order, in groups of 2 (up to 6 cells), 4 (up to 10), 5 (up to 16) or 4 (more)]";
+Groups of tiles, each with a pattern database, such as 1,2/3, or none
+[default: the tiles in order, in groups of 2 (up to 6 cells), 4 (up to 10),
+5 (up to 16) or 4 (more)]";
 
 /// The option `--fold`.
 pub(crate) const FOLD: &str = "\
-Fold the pattern databases: for each placement of a group's tiles, keep only the least value
-over the blank's cells. This takes less memory, but more boards are expanded. The costs of
-plans stay the same";
+Fold the pattern databases: for each placement of a group's tiles, keep
+only the least value over the blank's cells. This takes less memory but
+expands more boards. Plans cost the same";
 
 /// The option `--workers`.
 pub(crate) const WORKERS: &str =
@@ -237,8 +243,8 @@ pub(crate) const REPLAYED_WORKERS: &str = "Number of workers that share the boar
 
 /// The option `--spread`.
 pub(crate) const SPREAD: &str = "\
-How boards are divided among workers: by a hash of all tiles, by the blank's cell, or, mostly the
-fastest, by a hash of every fourth tile";
+Divide boards among workers by a hash of all tiles (zobrist), the blank's
+cell (blank) or a hash of every fourth tile (abstract, mostly the fastest)";
 
 /// The option `--limit`.
 pub(crate) const LIMIT: &str = "Maximum number of boards to expand for each line, 0 or more";
@@ -249,11 +255,11 @@ pub(crate) const REPLAYED_LIMIT: &str =
 
 /// The option `--cert`.
 pub(crate) const CERT: &str = "\
-Solve the first board alone: write a certificate of its plan or bound, or its report if it has
-neither";
+Solve the first board alone: write a certificate of its plan or bound, else
+its report";
 
 /// The option `--width`.
-pub(crate) const WIDTH: &str = "Columns of the text, from 20 to 1000";
+pub(crate) const WIDTH: &str = "Columns for boards side by side, from 20 to 1000";
 
 /// The option `--svg`.
 pub(crate) const SVG: &str = "Write an SVG file, in which the tiles slide move by move";
@@ -269,17 +275,18 @@ pub(crate) const SEED: &str = "Seed of the draws: the same seed gives the same b
 
 /// The option `--moves`.
 pub(crate) const MOVES: &str = "\
-Walk this many moves from the goal to each board, 0 to 1000000; no move takes back the one before
-it";
+Walk this many moves from the goal to each board, 0 to 1000000; no move
+undoes the last";
 
 /// The option `--all`.
 pub(crate) const ALL: &str = "\
-List all boards with a plan to the goal, in rising order of their tiles (at most 9 cells)";
+List all boards with a plan to the goal, in rising order of their tiles (at
+most 9 cells)";
 
 /// The option `--progress`.
-pub(crate) const PROGRESS: &str = "Print how far the search is on standard error, once a second";
+pub(crate) const PROGRESS: &str = "Print on standard error how far the search is, once a second";
 
 /// The option `--stats`.
 pub(crate) const STATS: &str = "\
-Print figures of the search for each answered board on standard error, as one line of JSON; with
---cert there are none";
+Print figures of the search for each answered board on standard error, as
+one line of JSON (none with --cert)";

@@ -11,9 +11,9 @@ use crate::faults::NoRequest;
 use crate::listings::listing_in;
 use crate::requests::{Options, Request};
 use crate::values::{Values, is_set, style_in, values_in};
+use batch_lines::{GroupsFault, default_groups, read_costs, read_goal, read_groups};
 use board::{Board, Shape, TilesFault, Weights, WeightsFault};
 use clap::ArgMatches;
-use option_texts::{GroupsFault, default_groups, read_costs, read_goal, read_groups};
 use pattern_index::Partition;
 use std::alloc::Global;
 

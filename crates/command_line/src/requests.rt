@@ -10,6 +10,7 @@ ghost use Rattle.command_line.specs.Requests.{WordsAsk, WordsFail};
 use crate::commands::program;
 use crate::faults::NoRequest;
 use crate::matches::run_in;
+use batch_lines::{GroupsFault, default_groups};
 use batch_runs::SpreadKind;
 use board::{Board, Shape, Weights};
 use board_lists::Choice;
@@ -17,7 +18,6 @@ use clap::error::ErrorKind;
 use clap::{ArgMatches, Error};
 use drawings::Style;
 use memory::OutOfMemory;
-use option_texts::{GroupsFault, default_groups};
 use pattern_index::Partition;
 use std::alloc::Global;
 

@@ -47,7 +47,7 @@ use Rattle.hda_run.specs.declared.parts.Parts.{Parts}
 use Rattle.hda_run.specs.Kinds.{Lacks}
 use Rattle.hda_run.specs.Jobs.{context_in, task_in, JobModel}
 use Rattle.hda_run.specs.Worlds.{world_of, AreGuided, job_of, IsLawful, IsWorkerCount, terms_in}
-use Rattle.offers.specs.Terms.{TermsModel}
+use Rattle.owners.specs.Terms.{TermsModel}
 use Rattle.worker_core.specs.Ahead.{AreFoundAhead, terms_of}
 use Rattle.worker_core.specs.declared.ahead.Ahead.{Ahead}
 use Rattle.world_model.proofs.RunLemmas.{steps_alike}

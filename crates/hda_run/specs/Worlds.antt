@@ -1,7 +1,7 @@
 -- What contracts see of a world.
 use Rattle.std.specs.Prelude.{ℕ, ◌≡◌, ◌≢◌, ◌<◌, ◌≤◌, [], All, length, map, slice_index_or}
 use Rattle.board.specs.Boards.{BoardModel}
-use Rattle.offers.specs.Terms.{TermsModel}
+use Rattle.owners.specs.Terms.{TermsModel}
 use Rattle.search_lists.specs.Lists.{SearchListsModel}
 use Rattle.worker_core.specs.Ahead.{AreFoundAhead}
 use Rattle.worker_core.specs.declared.ahead.Ahead.{Ahead}

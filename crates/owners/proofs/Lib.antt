@@ -1,1 +1,2 @@
 pub mod OwnerLemmas
+pub mod OfferLemmas

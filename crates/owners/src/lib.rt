@@ -1,4 +1,4 @@
-//! Which worker owns a board.
+//! Which worker owns a board, and what the moves from a board offer to its owners.
 //!
 //! - A `Spread` says which worker owns a board: any function of the spread, the number of workers
 //!   and the board.
@@ -9,13 +9,22 @@
 //!   successor.
 //! - `worker_of` has constants for common numbers of workers, since a division by a constant is
 //!   cheap.
-//! - Start with `specs/Owners.antt`, then `src/spread.rt`.
+//! - `offers_of` gives the successors of a board with cost, f and owner (`AreOffered`), except one
+//!   that may be left out. No board is made. `has_room` says whether the unsent packets have room
+//!   for what goes to others.
+//! - Start with `specs/Owners.antt`, `specs/Offers.antt`, then `src/spread.rt`, `src/offer.rt`.
 #![tactic(auto)]
 
 pub mod laws;
+mod offer;
+mod room;
 mod spread;
+mod terms;
 pub mod worked;
 mod zobrist;
 
+pub use offer::{Offer, no_offers, offers_of};
+pub use room::has_room;
 pub use spread::{ByBlank, Moved, Slide, Spread, worker_of};
+pub use terms::{Origin, Terms};
 pub use zobrist::{Abstract, Zobrist};

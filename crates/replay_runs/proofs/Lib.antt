@@ -1,1 +1,3 @@
 mod ReadLemmas
+mod StepLemmas
+mod WorkedLemmas

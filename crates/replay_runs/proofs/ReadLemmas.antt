@@ -27,7 +27,7 @@ use Rattle.batch_lines.specs.Words.{IsEntry, IsFirstEntryFault, entry_code}
 use Rattle.batch_lines.specs.declared.words.EntryFault.{EntryFault}
 use Rattle.outcomes.specs.declared.outcome.Outcome.{Outcome}
 use Rattle.outcomes.specs.Endings.{without_rows}
-use Rattle.reports.specs.Reports.{outcome_data, refused_data, report_text}
+use Rattle.batch_runs.specs.Reports.{outcome_data, refused_data, report_text}
 use Rattle.world_model.specs.Laws.{RunsAnswer}
 use Rattle.batch_runs.specs.Meanings.{Names}
 use Rattle.batch_runs.specs.declared.faults.LinesFault.{LinesFault}
@@ -53,10 +53,10 @@ use Rattle.std.proofs.Common.{get_or, ⊎_elim}
 use Rattle.std.proofs.lemmas.Bool.{ne_eqb}
 use Rattle.serde_json.specs.Data.{Data, null, boolean, number, string, array, object}
 use Rattle.serde_json.specs.Written.{compact_text}
-use Rattle.reports.specs.Readings.{HasSmallNumbers, HasStatus, IsReport}
-use Rattle.reports.specs.Readings.IsReport.{of_outcome}
-use Rattle.reports.proofs.ReadLemmas.{report_read}
-use Rattle.reports.proofs.TextLemmas.{text_other}
+use Rattle.batch_runs.specs.ReportReadings.{HasSmallNumbers, HasStatus, IsReport}
+use Rattle.batch_runs.specs.ReportReadings.IsReport.{of_outcome}
+use Rattle.batch_runs.proofs.ReadLemmas.{report_read}
+use Rattle.batch_runs.proofs.TextLemmas.{text_other}
 use Rattle.outcomes.specs.declared.outcome.Ending.{Ending}
 use Rattle.outcomes.specs.declared.outcome.Ending.TheVariants as kinds
 use Rattle.batch_lines.specs.Lines.{onto_first}

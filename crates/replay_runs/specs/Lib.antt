@@ -3,3 +3,6 @@ pub mod Replies
 pub mod Stepping
 pub mod Replays
 pub mod Openings
+pub mod Steps
+pub mod Answers
+pub mod Worked

@@ -13,9 +13,9 @@ use Rattle.outcomes.specs.Outcomes.{Answers}
 use Rattle.outcomes.specs.Endings.{without_rows, EndAnswers}
 use Rattle.outcomes.specs.declared.outcome.Outcome.{Outcome}
 use Rattle.serde_json.specs.Data.{Data}
-use Rattle.reports.specs.Readings.{Reads, HasStatus}
-use Rattle.reports.specs.Reports.{outcome_data, refused_data, report_text}
-use Rattle.step_lines.specs.Answers.{answer_word}
+use Rattle.batch_runs.specs.ReportReadings.{Reads, HasStatus}
+use Rattle.batch_runs.specs.Reports.{outcome_data, refused_data, report_text}
+use Rattle.replay_runs.specs.Answers.{answer_word}
 use Rattle.world_model.specs.declared.steps.Refusal.{Refusal}
 use Rattle.world_model.specs.declared.steps.Step.{Step}
 use Rattle.world_model.specs.Steps.{Next}

@@ -14,8 +14,8 @@ use Rattle.world_model.specs.declared.steps.Step.{Step}
 use Rattle.world_model.specs.Turns.{turn}
 use Rattle.world_model.specs.Worlds.{WorldState}
 use Rattle.world_model.specs.Steps.{Next}
-use Rattle.step_lines.specs.Answers.{answer_word}
-use Rattle.step_lines.specs.Steps.{SaysStep}
+use Rattle.replay_runs.specs.Answers.{answer_word}
+use Rattle.replay_runs.specs.Steps.{SaysStep}
 
 -- a line is passed over; or it says no step; or it says this one, which is refused so, or isn't refused
 pub data Reply : Type 0 where

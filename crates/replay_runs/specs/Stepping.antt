@@ -4,8 +4,8 @@ use Rattle.byte_streams.specs.Streams.{SourceState, SinkState, Change, from_to}
 use Rattle.byte_streams.specs.Sink.{Puts, PutsBeginning}
 use Rattle.outcomes.specs.declared.outcome.Outcome.{Outcome}
 use Rattle.outcomes.specs.Endings.{without_rows}
-use Rattle.reports.specs.Readings.{HasSmallNumbers}
-use Rattle.reports.specs.Reports.{outcome_data, report_text}
+use Rattle.batch_runs.specs.ReportReadings.{HasSmallNumbers}
+use Rattle.batch_runs.specs.Reports.{outcome_data, report_text}
 use Rattle.world_model.specs.Worlds.{WorldState}
 use Rattle.world_model.specs.Steps.{IsRun}
 use Rattle.world_model.specs.Outcomes.{IsGiven}

@@ -13,12 +13,11 @@ use crate::sending::send;
 use crate::stepping::{Opened, Run, replay_steps};
 use arrayvec::ArrayVec;
 use batch_lines::{EntryFault, LINE_LIMIT, LineKind, LineReader, read_entry};
-use batch_runs::{LinesFault, find_line};
+use batch_runs::{LinesFault, find_line, refused_report};
 use board::{Board, Shape};
 use byte_streams::{Sink, Source};
 use memory::OutOfMemory;
 use outcomes::SolveFault;
-use reports::refused_report;
 use std::alloc::Global;
 use world_model::laws::runs_keep_sound;
 

@@ -11,7 +11,7 @@ ghost use Rattle.replay_runs.specs.Openings.{ReplaysOpenAsSetUp};
 
 use crate::board_line::Opener;
 use crate::stepping::Run;
-use step_lines::read_step;
+use crate::steps::read_step;
 
 /// Where a text says a step, the reply to it is that this step was taken, or refused.
 #[tactic(auto, using(crate::proofs::ReadLemmas::reply_taken))]

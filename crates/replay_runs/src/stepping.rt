@@ -14,14 +14,14 @@ ghost use Rattle.replay_runs.specs.Replies.{RepliesToKind, Changes, WritesReply,
 ghost use Rattle.replay_runs.specs.Replies.{reply_to, line_of, replay_status_of};
 ghost use Rattle.replay_runs.specs.Stepping.{RepliesToLines, Finishes};
 
+use crate::answers::{NO_STEP, answer_word};
 use crate::sending::{send, send_word};
+use crate::steps::read_step;
 use batch_lines::{Line, LineKind, LineReader};
-use batch_runs::LinesFault;
+use batch_runs::{LinesFault, outcome_report};
 use byte_streams::{Sink, Source, WriteFailed};
 use outcomes::{Ending, Outcome};
-use reports::outcome_report;
 use std::alloc::Global;
-use step_lines::{NO_STEP, answer_word, read_step};
 use world_model::{Refusal, Step};
 
 /// A run of steps, and the outcome at its end.

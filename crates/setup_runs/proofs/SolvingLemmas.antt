@@ -25,7 +25,7 @@ use Rattle.owners.specs.Owners.{AreWorkers, owner_by_hash-lt, owner_by_blank-lt,
 use Rattle.batch_runs.specs.declared.setup.SpreadKind.TheVariants.{Zobrist, Blank, Abstract}
 use Rattle.batch_runs.specs.Setups.{SetupModel, owner_by, task_of_setup}
 use Rattle.batch_runs.specs.Batches.{IsTruthful}
-use Rattle.thread_joins.specs.Threads.{IsJoined}
+use Rattle.thread_runs.specs.Threads.{IsJoined}
 use Rattle.thread_runs.specs.Solved.{IsFoundByWorkers, IsLeftToOne}
 use Rattle.setup_runs.specs.Ahead.{LacksMemory, IsTooHard, IsTried, AreTried}
 use Rattle.setup_runs.specs.declared.ahead.Tried.{Tried}

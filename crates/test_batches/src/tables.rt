@@ -2,10 +2,10 @@
 
 ghost use Rattle.std.specs.Prelude.{◌≡◌, IfSome};
 
+use batch_lines::default_groups;
 use board::{Board, Shape, Weights};
 use database_build::{Folded, Table};
 use lower_bound::{Bound, TableList};
-use option_texts::default_groups;
 use std::alloc::Global;
 use std::test::Fail;
 use std::thread::Threads;

@@ -1,7 +1,7 @@
 //! What texts of groups and of goals say.
 
+use batch_lines::{default_groups, read_goal, read_groups};
 use board::Shape;
-use option_texts::{default_groups, read_goal, read_groups};
 use pattern_index::Partition;
 use std::alloc::Global;
 use std::test::Fail;

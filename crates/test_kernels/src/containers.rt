@@ -213,15 +213,34 @@ fn the_lowest_is_taken(rt: HostRuntime) {
         (7, 1, 3, 7),
         (5, 2, 2, 5),
         (5, 2, 2, 5),
+        (5, 4, 1, 5),
         (GREATEST_F, 3, 0, 5),
     ] {
         assert!(rt; wait(rt.alloc(), &mut open, f, key, g) == Some(lowest));
+    }
+    // The f, how many entries wait there, and the first and the last of them, which are exchanged.
+    for (f, count, first, last) in [
+        (5, 3, Some((2, 2)), Some((4, 1))),
+        (6, 0, None, None),
+        (GREATEST_F, 1, Some((3, 0)), Some((3, 0))),
+    ] {
+        assert_eq!(rt; open.count_at(f), count);
+        assert!(rt;
+            open.entry_at(f, 0) == first && open.last_at(f) == last,
+            "at {f}"
+        );
+        open.bring_last(f, 0);
+        assert!(rt;
+            open.entry_at(f, 0) == last && open.last_at(f) == first,
+            "at {f}"
+        );
     }
     // The limit, the entry that is taken, and the lowest f after it.
     for (below, entry, lowest) in [
         (5, None, Some(5)),
         (6, Some((2, 2)), Some(5)),
-        (6, Some((2, 2)), Some(7)),
+        (6, Some((2, 2)), Some(5)),
+        (6, Some((4, 1)), Some(7)),
         (6, None, Some(7)),
         (8, Some((1, 3)), Some(GREATEST_F)),
         (GREATEST_F, None, Some(GREATEST_F)),

@@ -1,2 +1,4 @@
 -- Lemmas on parts.
 pub mod PartLemmas
+pub mod EndLemmas
+pub mod GridLemmas

@@ -20,9 +20,9 @@ use Rattle.world_model.specs.declared.parts.Known.{Known}
 use Rattle.world_model.specs.Knowledge.{Knowledge, is_news, relaxation}
 use Rattle.world_model.specs.Openings.{idle_worker, first_worker}
 use Rattle.world_model.specs.Shapes.{IsTask}
-use Rattle.thread_model.specs.Changes.{with_packet, Sends, Receives, part_with_worker, opening_part}
-use Rattle.thread_model.specs.Parts.{PartState, IsRole, Keeps}
-use Rattle.thread_model.specs.Laws.{SettlingIsKept, DroppingIsKept, OpeningsAreKept}
+use Rattle.world_model.specs.PartChanges.{with_packet, Sends, Receives, part_with_worker, opening_part}
+use Rattle.world_model.specs.ThreadParts.{PartState, IsRole, Keeps}
+use Rattle.world_model.specs.ThreadLaws.{SettlingIsKept, DroppingIsKept, OpeningsAreKept}
 use Rattle.search_lists.specs.Lists.{SearchListsModel}
 use Rattle.message_ledger.specs.Spending.{AllowanceModel, spent}
 use Rattle.worker_core.specs.declared.worker.Worker.{Worker}
@@ -34,7 +34,7 @@ use Rattle.worker_core.specs.Roles.{IsGuided, guide_of}
 use Rattle.worker_core.specs.Serving.{Serves, StaysGuided}
 use Rattle.worker_core.specs.Workers.{state_of, at_lane, with_book}
 use Rattle.worker_core.specs.Settling.{SettleOrDrop}
-use Rattle.rings.specs.Rings.{SenderModel, ReceiverModel, TakesIn, GivesOut, Looks, sent_lanes, received_lanes, left_lanes}
+use Rattle.thread_parts.specs.Rings.{SenderModel, ReceiverModel, TakesIn, GivesOut, Looks, sent_lanes, received_lanes, left_lanes}
 use Rattle.hda_run.specs.Jobs.{JobModel, context_in, task_in}
 use Rattle.thread_parts.specs.declared.part.Part.{Part}
 use Rattle.thread_parts.specs.Parts.{ChangesItsWorker, HaveSameLanes, face_of, IsSoundPart, IsFaceKept, part_state, role_of_part, terms_for}

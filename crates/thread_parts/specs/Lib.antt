@@ -1,3 +1,4 @@
 -- The part of a run that one thread has.
 pub mod Parts
 pub mod Steps
+pub mod Rings

@@ -1,11 +1,11 @@
 -- What contracts see of a part.
 use Rattle.std.specs.Prelude.{ℕ, ◌≡◌, List}
 use Rattle.board.specs.Boards.{BoardModel}
-use Rattle.rings.specs.Rings.{Ring, out_rings, in_rings, sent_lanes, received_lanes}
-use Rattle.thread_model.specs.Changes.{part_with_worker}
-use Rattle.thread_model.specs.Parts.{PartState, IsRole, Keeps}
+use Rattle.thread_parts.specs.Rings.{Ring, out_rings, in_rings, sent_lanes, received_lanes}
+use Rattle.world_model.specs.PartChanges.{part_with_worker}
+use Rattle.world_model.specs.ThreadParts.{PartState, IsRole, Keeps}
 use Rattle.world_model.specs.Workers.{Role, WorkerState}
-use Rattle.offers.specs.Terms.{TermsModel}
+use Rattle.owners.specs.Terms.{TermsModel}
 use Rattle.worker_core.specs.Ahead.{AreFoundAhead}
 use Rattle.worker_core.specs.Expanding.{role_by}
 use Rattle.worker_core.specs.Roles.{IsGuided, guide_of}

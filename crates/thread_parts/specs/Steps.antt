@@ -1,7 +1,7 @@
 -- The steps that a part takes otherwise than a worker of a world does.
 use Rattle.std.specs.Prelude.{◌≡◌, ◌≢◌, ◌⊎◌, ℕ, ◌+◌, ◌^◌, ◌<◌, [], None, Some}
-use Rattle.thread_model.specs.Changes.{Sends, Receives}
-use Rattle.thread_model.specs.Parts.{PartState}
+use Rattle.world_model.specs.PartChanges.{Sends, Receives}
+use Rattle.world_model.specs.ThreadParts.{PartState}
 use Rattle.world_model.specs.declared.steps.Refusal.{Refusal}
 use Rattle.world_model.specs.declared.steps.Refusal.TheVariants.{NothingThere, PurseTooSmall, RingFull, StillHolding, PurseFull, RingEmpty, Stopped, PurseEmpty}
 use Rattle.world_model.specs.Turns.{Turn, IsRefused, Unless}

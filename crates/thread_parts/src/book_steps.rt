@@ -16,7 +16,7 @@ use crate::part::Part;
 use message_ledger::Tokens;
 use owners::Spread;
 use quiescence::{Book, Rested};
-use thread_model::laws::steps_are_kept;
+use world_model::thread_laws::steps_are_kept;
 use world_model::{HaltCause, Refusal};
 
 impl<'a, S: Spread, C: Tokens> Part<'a, S, C> {

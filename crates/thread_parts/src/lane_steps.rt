@@ -1,7 +1,7 @@
 //! The two steps on rings.
 
 ghost use Rattle.std.specs.Prelude.{◌≡◌, ◌<◌, [], IsErrOf, slice_index_or};
-ghost use Rattle.rings.specs.Rings.{left_lanes};
+ghost use Rattle.thread_parts.specs.Rings.{left_lanes};
 ghost use Rattle.world_model.specs.declared.steps.Refusal.{Refusal};
 ghost use Rattle.world_model.specs.Turns.{turn, refusal_in};
 ghost use Rattle.thread_parts.specs.Parts.{part_state, IsSoundPart, KeepsPart};
@@ -10,8 +10,8 @@ ghost use Rattle.thread_parts.specs.Steps.{SendByRing, DeliverByRing};
 use crate::part::Part;
 use message_ledger::Tokens;
 use owners::Spread;
-use thread_model::laws::steps_are_kept;
 use world_model::Refusal;
+use world_model::thread_laws::steps_are_kept;
 
 impl<'a, S: Spread, C: Tokens> Part<'a, S, C> {
     /// Sends what is unsent for worker `to` as one packet, with 1 of the purse. Refusals: S13

@@ -3,7 +3,7 @@
 ghost use Rattle.std.specs.Prelude.{◌≡◌, ◌≢◌, ◌<◌, ◌%◌, [], IfOk, replicate};
 ghost use Rattle.board.specs.declared.moves.Move.{Move};
 ghost use Rattle.worker_core.specs.Roles.{IsGuided, guide_of};
-ghost use Rattle.rings.specs.Rings.{out_rings, in_rings, sent_lanes, received_lanes};
+ghost use Rattle.thread_parts.specs.Rings.{out_rings, in_rings, sent_lanes, received_lanes};
 ghost use Rattle.hda_run.specs.Jobs.{task_in};
 ghost use Rattle.worker_core.specs.Workers.{state_of};
 ghost use Rattle.thread_parts.specs.Parts.{fresh_allowance, begun_with};
@@ -11,19 +11,19 @@ ghost use Rattle.world_model.specs.Openings.{idle_worker, first_worker};
 ghost use Rattle.thread_parts.specs.Parts.{face};
 
 use crate::part::Part;
+use crate::rows::Ends;
 use crate::sealed::Sealed;
 use crate::search::Search;
 use board::Move;
 use memory::OutOfMemory;
 use message_ledger::{Allowance, Counting, Purse, Tokens};
 use owners::Spread;
-use rings::Ends;
 use search_keys::KeyedBoard;
 use std::alloc::Global;
-use thread_model::laws::openings_are_kept;
 use worker_core::laws::tasks_have_guides;
 use worker_core::{Ahead, Worker};
 use world_model::Item;
+use world_model::thread_laws::openings_are_kept;
 
 /// What a worker begins with: its part of the credit, and an allowance by which nothing was granted
 /// yet.

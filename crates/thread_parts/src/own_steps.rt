@@ -11,9 +11,9 @@ use crate::part::Part;
 use message_ledger::Tokens;
 use owners::Spread;
 use std::alloc::Global;
-use thread_model::laws::steps_are_kept;
 use worker_core::Successors;
 use world_model::Refusal;
+use world_model::thread_laws::steps_are_kept;
 
 impl<'a, S: Spread, C: Tokens> Part<'a, S, C> {
     /// Expands a board of least cost plus sum by all moves but the one back: whoever made its cost

@@ -1,9 +1,9 @@
 //! The part of a run that one thread has.
 
+use crate::ends::{Receiver, Sender};
 use hda_run::Job;
 use message_ledger::Counting;
 use owners::Spread;
-use rings::{Receiver, Sender};
 use worker_core::{Ahead, Worker};
 
 /// A worker, and its ends of the rings to and from each worker.

@@ -2,10 +2,10 @@
 use Rattle.std.proofs.Common.{◌≡◌, ℕ, refl, sym, ◌∙◌, subst, inr, Option, Some, None, replicate, zero, suc, List, [], ◌∷◌, ◌++◌, map, length, ap, arith, ◌≤◌, ◌+◌, ◌*◌, inl}
 use Rattle.std.specs.Prelude.{IfNone, IfSome, slice_get, slice_index_or, option_map}
 use Rattle.std.proofs.lemmas.Option.{none-some, slice_get-map, get_or_from_slice_get}
-use Rattle.rings.specs.Rings.{Ring, ArePaired}
+use Rattle.thread_parts.specs.Rings.{Ring, ArePaired}
 use Rattle.hda_run.specs.Jobs.{JobModel, task_in}
 use Rattle.thread_parts.specs.Parts.{SealedModel, face}
-use Rattle.thread_joins.specs.Threads.{IsJoint, IsJoined, IsFoundByThreads}
+use Rattle.thread_runs.specs.Threads.{IsJoint, IsJoined, IsFoundByThreads}
 use Rattle.std.proofs.lemmas.List.{length-replicate, length-set}
 use Rattle.board.specs.declared.moves.Move.TheVariants.{U}
 use Rattle.board.specs.Boards.{BoardModel}
@@ -24,8 +24,8 @@ use Rattle.world_model.proofs.KeptLemmas.{kept_never_cut, causes_stop}
 use Rattle.hda_run.specs.WholeRuns.{EndsWholeRun, IsOfWholeRun}
 use Rattle.hda_run.specs.Worlds.{job_of, IsWorkerCount}
 use Rattle.hda_run.proofs.LawLemmas.{never_stated}
-use Rattle.thread_joins.proofs.WorldLemmas.{joined_answers}
-use Rattle.thread_joins.specs.Laws.{JoinedWorldsAnswer}
+use Rattle.thread_runs.proofs.WorldLemmas.{joined_answers}
+use Rattle.thread_runs.specs.JoinedLaws.{JoinedWorldsAnswer}
 use Rattle.thread_runs.specs.Solved.{IsFoundByWorkers, IsLeftToOne}
 use Rattle.outcomes.specs.declared.outcome.Cause.{Cause}
 use Rattle.outcomes.specs.declared.outcome.Cause.TheVariants.{Limit, Memory, Start, Cost, Cut}

@@ -1,2 +1,4 @@
 -- Lemmas.
 pub mod LawLemmas
+pub mod TakenLemmas
+pub mod WorldLemmas

@@ -28,7 +28,7 @@ use Rattle.hda_run.specs.Alone.{IsFoundAlone, IsRunAlone}
 use Rattle.hda_run.specs.Jobs.{JobModel, task_in}
 use Rattle.hda_run.specs.WholeRuns.{EndsWholeRun}
 use Rattle.hda_run.specs.Worlds.{job_of}
-use Rattle.thread_joins.specs.Threads.{IsJoined, IsFoundByThreads}
+use Rattle.thread_runs.specs.Threads.{IsJoined, IsFoundByThreads}
 use Rattle.thread_runs.specs.Solved.{IsFoundByWorkers, IsSolved}
 
 -- the cause is the limit, or that each plan costs more than a run may reach, or that memory was refused

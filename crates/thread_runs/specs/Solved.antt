@@ -8,7 +8,7 @@ use Rattle.world_model.specs.Worlds.{WorldState}
 use Rattle.hda_run.specs.Alone.{IsFoundAlone}
 use Rattle.hda_run.specs.Jobs.{JobModel}
 use Rattle.hda_run.specs.Worlds.{job_of}
-use Rattle.thread_joins.specs.Threads.{IsJoined, IsFoundByThreads}
+use Rattle.thread_runs.specs.Threads.{IsJoined, IsFoundByThreads}
 
 -- Why one worker answers for n: one was asked for; or there is a world of n workers who were joined that is not kept. Where memory was
 -- refused for what threads begin or end with, that is the opening world, from which no thread has started.

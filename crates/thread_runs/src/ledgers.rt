@@ -1,21 +1,20 @@
 //! Runs by threads, each over two ledgers of its own.
 
 ghost use Rattle.std.specs.Prelude.{◌≡◌, ◌+◌, ◌^◌, IfOk};
-ghost use Rattle.thread_joins.specs.Threads.{IsFoundByThreads};
+ghost use Rattle.thread_runs.specs.Threads.{IsFoundByThreads};
 ghost use Rattle.thread_runs.specs.Ledgers.{AreBlanksOf};
 
+use crate::outcome::outcome_of_joined;
 use crate::teams::run_team;
 use hda_run::Gate;
 use message_ledger::Capped;
 use owners::Spread;
-use rings::NoMemory;
 use std::alloc::Global;
 use std::marker::Brand;
 use std::sync::Wait;
 use std::sync::ledger::{Blank, Ledger};
 use std::thread::Threads;
-use thread_joins::outcome_of_joined;
-use thread_parts::Search;
+use thread_parts::{NoMemory, Search};
 use world_ends::Reading;
 
 /// Two new ledgers, which have no types of their own yet: that of the credit, and that of what is

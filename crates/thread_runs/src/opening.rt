@@ -1,16 +1,15 @@
 //! The parts with which a run begins.
 
 ghost use Rattle.std.specs.Prelude.{◌≡◌, ◌+◌, ◌<◌, ◌≤◌, IfOk};
-ghost use Rattle.rings.specs.Rings.{AreNew};
-ghost use Rattle.thread_joins.specs.Threads.{IsJoint};
+ghost use Rattle.thread_parts.specs.Rings.{AreNew};
+ghost use Rattle.thread_runs.specs.Threads.{IsJoint};
 
 use memory::OutOfMemory;
 use message_ledger::{Capped, Credit, Purse, Shares, Tickets};
 use owners::Spread;
-use rings::{Ends, Rings, take_row};
 use std::alloc::Global;
 use std::sync::ledger::Ledger;
-use thread_parts::{Means, Sealed, Search, open_part};
+use thread_parts::{Ends, Means, Rings, Sealed, Search, open_part, take_row};
 
 /// What workers begin with: the credit, the purse that has its 1, and a ticket for each of them.
 #[derive(Drop)]

@@ -8,9 +8,10 @@ ghost use Rattle.outcomes.specs.declared.outcome.Why.TheVariants.{Parity};
 ghost use Rattle.hda_run.specs.Jobs.{task_in};
 ghost use Rattle.hda_run.specs.WholeRuns.{EndsWholeRun, HasWholeRun};
 ghost use Rattle.hda_run.specs.Worlds.{IsWorkerCount};
-ghost use Rattle.thread_joins.specs.Threads.{IsFoundByThreads};
+ghost use Rattle.thread_runs.specs.Threads.{IsFoundByThreads};
 ghost use Rattle.thread_runs.specs.Solved.{IsFoundByWorkers, IsSolved, IsLeftToOne};
 
+use crate::joined_laws::joined_worlds_answer;
 use crate::laws::owners_are_workers;
 use crate::ledgers::run_by_threads;
 use board::laws::plans_keep_the_class;
@@ -21,7 +22,6 @@ use owners::Spread;
 use std::alloc::Global;
 use std::sync::Wait;
 use std::thread::Threads;
-use thread_joins::laws::joined_worlds_answer;
 use thread_parts::Search;
 use world_ends::{Reading, WithRows};
 

@@ -1,22 +1,21 @@
 //! Threads that were joined after a run.
 
 ghost use Rattle.std.specs.Prelude.{◌≡◌, ◌+◌, ◌^◌, IfOk};
-ghost use Rattle.thread_joins.specs.Threads.{IsJoint};
+ghost use Rattle.thread_runs.specs.Threads.{IsJoint};
 ghost use Rattle.thread_runs.specs.Ledgers.{AreBlanksOf};
 
 use crate::ledgers::Blanks;
 use crate::opening::{Funds, open_parts};
+use crate::team::Team;
 use hda_run::Gate;
 use message_ledger::{Capped, Credit, Grants, Shares};
 use owners::Spread;
 use quiescence::Book;
-use rings::{NoMemory, open_rings};
 use std::alloc::Global;
 use std::sync::ledger::Ledger;
 use std::sync::{Mutex, Wait};
 use std::thread::Threads;
-use thread_joins::Team;
-use thread_parts::Search;
+use thread_parts::{NoMemory, Search, open_rings};
 use thread_work::{Signs, Site, run_all};
 
 /// Searches with a thread for each worker, over two new ledgers, and returns what is left once all

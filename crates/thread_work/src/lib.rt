@@ -11,10 +11,12 @@
 //!   was.
 //! - A round receives, announces, expands up to 16 boards, sends nearly full packets, and rests
 //!   where nothing was done.
-//! - A worker waits while another one has boards of f lower by more than a lead (`Pace`): what it
-//!   expanded might be in vain. `Signs` has each one's level, which is about the least f of its
-//!   boards, and proves nothing: after 32 turns in a row without a packet it expands some anyway.
-//!   Before it shows a higher level it sends what is unsent; who sends lowers the receiver's.
+//! - A worker waits while another one has boards of f lower by more than a lead (`Pace`), or, where
+//!   it has no lead, is over 64 rounds behind at the same f: what it expanded might be in vain.
+//!   `Signs` has each one's level, which is about the least f of its boards and its rounds there,
+//!   and proves nothing: after 32 turns in a row without a packet, or 16 at the same f, it expands
+//!   some anyway. Before it shows a higher f it sends what is unsent; who sends lowers the f of the
+//!   receiver's level.
 //! - The book's lock is held for one step or look. A mark in `Signs` says that it has stopped; the
 //!   mark proves nothing, so the book is read then.
 //! - An idle thread spins 8 rounds, yields 8, then sleeps at most 100 microseconds. Before it

@@ -3,7 +3,7 @@
 ghost use Rattle.std.specs.Prelude.{◌≡◌};
 ghost use Rattle.thread_parts.specs.Parts.{IsSoundPart, IsFaceKept, KeepsPart};
 
-use crate::signs::NO_LEVEL;
+use crate::signs::{NO_LEVEL, f_of, level_at};
 use crate::site::Site;
 use hda_run::{Gate, Job, Kind};
 use lower_bound::TableList;
@@ -18,7 +18,7 @@ use world_model::Refusal;
 const EXPANSIONS_IN_A_ROUND: u32 = 16;
 
 // After this many turns in a row without a packet a worker expands boards though others have some
-// of lower f.
+// of an f that is lower by more than its lead.
 const PATIENT_TURNS: u32 = 32;
 
 // What is added to the lead where tables are folded.
@@ -29,15 +29,30 @@ const FEW_ROUNDS: u32 = 4;
 
 const MANY_ROUNDS: u32 = 64;
 
+// By how many rounds at the least f that is shown a worker may be ahead of the slowest one there.
+const ROUNDS_AHEAD: u64 = 64;
+
+// After this many turns in a row without a packet it goes on all the same: else it would sleep.
+const TURNS_AWAKE: u32 = 16;
+
+// Up to this many rounds at one f may stay unshown.
+const ROUNDS_UNSHOWN: u64 = 15;
+
 // How a worker keeps pace with the others. Where another one has boards of lower f, the f of what
-// it expands may be the best plan's cost or more, and then it is in vain.
+// it expands may be the best plan's cost or more, and then it is in vain. Where another one is many
+// rounds behind at the same f, the faster one comes to boards of lower g before it, and what it
+// sends then keeps the slower one from its boards of greater g.
 #[derive(Clone, Copy)]
 struct Pace {
-    // By how much its level may be above the least one that is shown.
+    // By how much the f of its boards may be above the least one that is shown.
     lead: u64,
-    // Its level, and in how many rounds in a row it expanded boards at this level.
-    level: u64,
+    // The least f of its boards, or `NO_LEVEL` where it has none, and in how many rounds in a row
+    // it set out to expand boards of this f.
+    f: u64,
     rounds: u32,
+    // The greatest f that it had, and in how many rounds it set out to expand boards of that f.
+    top_f: u64,
+    rounds_at_top: u32,
 }
 
 impl Pace {
@@ -45,16 +60,23 @@ impl Pace {
     fn new(job: &Job<'_>) -> Self {
         Pace {
             lead: lead_in(job),
-            level: NO_LEVEL,
+            f: NO_LEVEL,
             rounds: 0,
+            top_f: 0,
+            rounds_at_top: 0,
         }
     }
 
-    // Begins a round at a level.
-    fn enter(&mut self, level: u64) {
-        if level != self.level {
-            self.level = level;
-            self.rounds = 0;
+    // Begins a round at an f.
+    fn enter(&mut self, f: u64) {
+        if f == self.f {
+            return;
+        }
+        self.f = f;
+        self.rounds = 0;
+        if f > self.top_f && f != NO_LEVEL {
+            self.top_f = f;
+            self.rounds_at_top = 0;
         }
     }
 
@@ -62,16 +84,35 @@ impl Pace {
     // again before. They were in order when the first of this f was expanded, but then others still
     // had boards of lower f, whose successors came since.
     fn wants_order(&mut self) -> bool {
-        if self.level == NO_LEVEL {
+        if self.f == NO_LEVEL {
             return false;
+        }
+        if self.f == self.top_f {
+            self.rounds_at_top = self.rounds_at_top.saturating_add(1);
         }
         self.rounds = self.rounds.saturating_add(1);
         self.rounds == FEW_ROUNDS || self.rounds == MANY_ROUNDS
     }
+
+    // Its level. Below the greatest f that it had, it waits for no worker at its f.
+    fn level(&self) -> u64 {
+        if self.f == self.top_f {
+            return level_at(self.f, self.rounds_at_top);
+        }
+        level_at(self.f, 0)
+    }
+
+    // The level to show the others. Below the greatest f that it had, none at its f waits for it.
+    fn to_show(&self) -> u64 {
+        if self.f < self.top_f {
+            return level_at(self.f, u32::MAX);
+        }
+        self.level()
+    }
 }
 
-// The lead of a worker in a job. At unit cost it has none, since each f has many boards. Where moves
-// cost more an f has few. By folded tables a successor may have a lower f than its board.
+// The lead of a worker in a job. At unit cost it has none, since each f has many boards. Where
+// moves cost more an f has few. By folded tables a successor may have a lower f than its board.
 fn lead_in(job: &Job<'_>) -> u64 {
     let weights = job.weights();
     let mut dearest = 1;
@@ -134,6 +175,9 @@ impl<'a, R: Wait, G: Gate, C: Tokens> Site<'a, R, G, C> {
             return received;
         }
         self.tell_news(part);
+        if turns < TURNS_AWAKE && self.is_rounds_ahead(pace) {
+            return self.send_all(part) || received;
+        }
         if turns < PATIENT_TURNS && self.is_ahead(pace) {
             pace.rounds = 0;
             return self.send_all(part) || received;
@@ -154,33 +198,50 @@ impl<'a, R: Wait, G: Gate, C: Tokens> Site<'a, R, G, C> {
         ensures kept { IsFaceKept part.old part.new }
     {
         let received = self.receive(part);
-        pace.enter(level_of(part));
+        pace.enter(least_f_of(part));
         self.show_level(part, pace);
         received
     }
 
-    // Shows the others this worker's level. A rise by no more than the lead may stay unshown. Before
-    // a greater one is shown, what is unsent goes out where rings have room: the boards there may be
-    // of lower f.
+    // Shows the others this worker's level. A rise of f by no more than the lead may stay unshown,
+    // but then no worker at the f that is shown waits for this one. Some rounds at an f may stay
+    // unshown too. Before a greater rise of f is shown, what is unsent goes out where rings have
+    // room: the boards there may be of lower f.
     fn show_level<S: Spread>(&self, part: &mut Part<'_, S, C>, pace: &Pace)
         requires { IsSoundPart S.owner_of C.workers part.old }
         ensures { KeepsPart S.owner_of C.workers part.old part.new }
     {
         let shown = self.signs.level(part.me);
-        if pace.level < shown {
-            self.signs.set_level(part.me, pace.level);
+        let level = pace.to_show();
+        if level < shown {
+            self.signs.set_level(part.me, level);
             return;
         }
-        if pace.level > shown.saturating_add(pace.lead) {
+        if f_of(level) > f_of(shown).saturating_add(pace.lead) {
             let _ = self.send_all(part);
-            self.signs.set_level(part.me, pace.level);
+            self.signs.set_level(part.me, level);
+            return;
+        }
+        let level = level.min(level_at(f_of(shown), u32::MAX));
+        if level > shown.saturating_add(ROUNDS_UNSHOWN) {
+            self.signs.set_level(part.me, level);
         }
     }
 
-    // Whether a worker's level is above the least one that is shown by more than its lead. A worker
-    // without boards is never ahead.
+    // Whether the f of a worker's boards is above the least one that is shown by more than its
+    // lead. A worker without boards is never ahead.
     fn is_ahead(&self, pace: &Pace) -> bool {
-        pace.level != NO_LEVEL && pace.level > self.signs.lowest_level().saturating_add(pace.lead)
+        pace.f != NO_LEVEL && pace.f > f_of(self.signs.lowest_level()).saturating_add(pace.lead)
+    }
+
+    // Whether a worker is many rounds ahead of the slowest one at the least f that is shown. With a
+    // lead it never is: which f a worker has is hardly shown then.
+    fn is_rounds_ahead(&self, pace: &Pace) -> bool {
+        if pace.lead > 0 {
+            return false;
+        }
+        let lowest = self.signs.lowest_level();
+        pace.f == f_of(lowest) && pace.level() > lowest.saturating_add(ROUNDS_AHEAD)
     }
 
     // Lets boards be put in order again, if they are to be now, and expands some. Answers whether
@@ -257,7 +318,7 @@ impl<'a, R: Wait, G: Gate, C: Tokens> Site<'a, R, G, C> {
 }
 
 // The least f of what waits at a worker below its limit, also of what is out of date.
-fn level_of<S: Spread, C: Tokens>(part: &Part<'_, S, C>) -> u64 {
+fn least_f_of<S: Spread, C: Tokens>(part: &Part<'_, S, C>) -> u64 {
     let Some(least) = part.worker.lists().least() else {
         return NO_LEVEL;
     };

@@ -25,16 +25,31 @@ const SLEEP_MICROSECONDS: u64 = 100;
 /// The level of a worker that has nothing to expand.
 pub(crate) const NO_LEVEL: u64 = u64::MAX;
 
+// How many levels an f has.
+const LEVELS_AT_AN_F: u64 = 1 << 32;
+
+/// The level of a worker that expanded boards of an f in this many rounds.
+pub(crate) fn level_at(f: u64, rounds: u32) -> u64 {
+    f.saturating_mul(LEVELS_AT_AN_F)
+        .saturating_add(u64::from(rounds))
+}
+
+/// The f of a level.
+pub(crate) fn f_of(level: u64) -> u64 {
+    level / LEVELS_AT_AN_F
+}
+
 /// Signs beside the lock of a book and beside the rings: whether the book has stopped, which
 /// workers sleep, and how low their boards are. They prove nothing: a worker that finds the mark
 /// looks at the book, one that is woken looks at its rings, and one that waits for others goes on
-/// after a while.
+/// after a number of turns.
 #[derive(Drop)]
 pub struct Signs {
     stopped: AtomicU64,
     // For each worker whether it sleeps.
     words: [AtomicU64; WORKER_LIMIT],
-    // For each worker its level, which is about the least f of what it may expand or was sent.
+    // For each worker its level: about the least f of what it may expand or was sent, and about how
+    // many rounds it made at that f, or the greatest number where nobody is to wait for it there.
     levels: [AtomicU64; WORKER_LIMIT],
 }
 
@@ -98,12 +113,14 @@ impl Signs {
         word.store(level, Ordering::SeqCst);
     }
 
-    /// Lowers a worker's level to that of another worker, which sent it a packet.
+    /// Lowers a worker's level to the f of another worker, which sent it a packet. Nobody at that f
+    /// is to wait for it, until it shows its own level.
     pub(crate) fn lower_level(&self, worker: usize, sender: usize) {
         let Some(level) = self.levels.get(worker) else {
             return;
         };
-        let _ = level.fetch_min(self.level(sender), Ordering::SeqCst);
+        let sent = level_at(f_of(self.level(sender)), u32::MAX);
+        let _ = level.fetch_min(sent, Ordering::SeqCst);
     }
 
     /// A worker waits a little after a turn without work, the longer the more there were in a row.

@@ -2,9 +2,9 @@
 
 use crate::runs::tell;
 use batch_cli::{Free, LinesFault, Setup, Summary, run_batch};
+use batch_lines::read_groups;
 use board::{Board, Shape, Weights};
 use byte_streams::{ByteSink, ByteSource};
-use option_texts::read_groups;
 use std::alloc::Global;
 use std::io;
 use std::sync::Wait;

@@ -38,13 +38,13 @@ use Rattle.search_lists.specs.Lists.{SearchListsModel, HasMoreRoom}
 use Rattle.search_lists.specs.declared.lists.Next.{Next}
 use Rattle.search_lists.specs.Orders.{Guide, IsInOrder, IsLeastOpen, IsWaiting}
 use Rattle.search_lists.proofs.OrderLemmas.{order_with_room}
-use Rattle.offers.specs.Offers.{item_by, Offers, IsOffered, AreOffered, OfEach, IsWithin}
-use Rattle.offers.specs.declared.offer.Offer.{Offer}
-use Rattle.offers.specs.Room.{goes, go, HasRoom}
+use Rattle.owners.specs.Offers.{item_by, Offers, IsOffered, AreOffered, OfEach, IsWithin}
+use Rattle.owners.specs.declared.offer.Offer.{Offer}
+use Rattle.owners.specs.Room.{goes, go, HasRoom}
 use Rattle.worker_core.specs.Expanding.{all_taken, taken, role_by, AddsUpBy, left_out_by, ExpandStepFor, OnwardStepsAloneAreWhole}
 use Rattle.worker_core.specs.declared.expanding.Successors.{Successors}
 use Rattle.worker_core.specs.declared.expanding.Successors.TheVariants.{All, Onward}
-use Rattle.offers.specs.Terms.{TermsModel}
+use Rattle.owners.specs.Terms.{TermsModel}
 use Rattle.std.specs.List as list
 use Rattle.worker_core.specs.Ahead.{AddsUpAs, AreOffersOf, IsFoundAhead, IsOf}
 use Rattle.worker_core.specs.declared.ahead.Found.{Found}

@@ -33,10 +33,10 @@ use Rattle.search_lists.specs.declared.lists.Met.{Met}
 use Rattle.search_lists.specs.Lists.{SearchListsModel, HasMoreRoom}
 use Rattle.search_lists.specs.Orders.{Guide, IsInOrder, AddsUp, IsLeastOpen, NoneBelow}
 use Rattle.search_lists.specs.declared.lists.Next.{Next}
-use Rattle.offers.specs.declared.offer.Offer.{Offer}
-use Rattle.offers.specs.Offers.{IsOfferOf, IsOffered, AreOffered, OfEach, Offers, item_by, IsWithin}
-use Rattle.offers.specs.Room.{goes, HasRoom}
-use Rattle.offers.proofs.OfferLemmas.{entry_is, entries_give, of_one}
+use Rattle.owners.specs.declared.offer.Offer.{Offer}
+use Rattle.owners.specs.Offers.{IsOfferOf, IsOffered, AreOffered, OfEach, Offers, item_by, IsWithin}
+use Rattle.owners.specs.Room.{goes, HasRoom}
+use Rattle.owners.proofs.OfferLemmas.{entry_is, entries_give, of_one}
 use Rattle.worker_core.specs.Expanding.{IsReady, stock, OfAll, taken, AddsUpBy, all_go, all_taken, in_turn, HasAllPlaces, HasPlaces, HasPlacesForItem, HasPlacesToExpand, left_out_by}
 use Rattle.worker_core.specs.declared.expanding.Successors.{Successors}
 use Rattle.worker_core.specs.Roles.{IsGuided, AreTaskBoards, IsGuideOf, task_of}

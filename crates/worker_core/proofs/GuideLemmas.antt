@@ -23,7 +23,7 @@ use Rattle.world_model.specs.declared.steps.Refusal.{Refusal}
 use Rattle.world_model.specs.declared.steps.Refusal.TheVariants.{Memory, NothingThere}
 use Rattle.world_model.specs.Shapes.{IsPacketFor}
 use Rattle.world_model.specs.WorkerSteps.{SettleStep}
-use Rattle.thread_model.specs.Changes.{HoldsOwnLast}
+use Rattle.world_model.specs.PartChanges.{HoldsOwnLast}
 use Rattle.search_lists.specs.declared.lists.Next.{Next}
 use Rattle.search_lists.specs.Lists.{SearchListsModel, empty_lists}
 use Rattle.search_lists.specs.Orders as orders

@@ -5,8 +5,8 @@ use Rattle.board.specs.declared.moves.Move.{Move}
 use Rattle.board.specs.Boards.{BoardModel}
 use Rattle.lower_bound.specs.Bounds.{sum_of}
 use Rattle.lower_bound.specs.Tables.{parts_of}
-use Rattle.offers.specs.Offers.{AreOffered, IsWithin, OfEach, Offers, item_by}
-use Rattle.offers.specs.Terms.{TermsModel}
+use Rattle.owners.specs.Offers.{AreOffered, IsWithin, OfEach, Offers, item_by}
+use Rattle.owners.specs.Terms.{TermsModel}
 use Rattle.search_keys.specs.SearchKeys.{HasSearchKey}
 use Rattle.search_lists.specs.declared.lists.Next.{Next}
 use Rattle.successor_sums.specs.Unpacked.{but}

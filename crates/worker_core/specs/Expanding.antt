@@ -8,9 +8,9 @@ use Rattle.search_keys.specs.SearchKeys.{HasSearchKey}
 use Rattle.board.specs.Boards.{BoardModel}
 use Rattle.open_buckets.specs.declared.open.TheConstants.{GREATEST_F}
 use Rattle.open_buckets.specs.OpenLists.{places_at}
-use Rattle.offers.specs.declared.offer.Offer.{Offer}
-use Rattle.offers.specs.Offers.{AreOffered, Offers, OfEach, item_by}
-use Rattle.offers.specs.Room.{goes}
+use Rattle.owners.specs.declared.offer.Offer.{Offer}
+use Rattle.owners.specs.Offers.{AreOffered, Offers, OfEach, item_by}
+use Rattle.owners.specs.Room.{goes}
 use Rattle.outcomes.specs.Outcomes.{Task}
 use Rattle.search_lists.specs.Lists.{HasMoreRoom, SearchListsModel}
 use Rattle.search_lists.specs.Orders.{Guide}

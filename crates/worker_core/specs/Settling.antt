@@ -15,7 +15,7 @@ use Rattle.world_model.specs.Shapes.{IsItemFor}
 use Rattle.world_model.specs.Turns.{Turn}
 use Rattle.world_model.specs.Workers.{WorkerState, Role}
 use Rattle.world_model.specs.WorkerSteps.{SettleStep}
-use Rattle.thread_model.specs.Changes.{DropStep, HoldsOwnLast}
+use Rattle.world_model.specs.PartChanges.{DropStep, HoldsOwnLast}
 use Rattle.worker_core.specs.Contexts.{ContextModel}
 use Rattle.worker_core.specs.Workers.{IfMemoryRefused}
 

@@ -82,8 +82,9 @@ impl<C: Counting> Worker<C> {
         &self.lists
     }
 
-    /// Lets it expand the boards of its least f in order of cost again, those of the greatest cost
-    /// first. Nothing changes that contracts speak of.
+    /// Lets it put what waits at its least f in order of cost once more before it takes the next
+    /// board, so that one of the greatest cost comes first. Boards that are put there later are
+    /// taken before those. Nothing changes that contracts speak of.
     pub fn order_anew(&mut self)
         ensures { self.new ≡ self.old }
     {

@@ -8,9 +8,9 @@ use board::{Board, Move, Shape};
 use message_ledger::{Packet, Purse, Tokens};
 use owners::Spread;
 use quiescence::{Book, Rested, book_code};
+use replay_runs::{answer_word, step_code};
 use search_keys::KeyedBoard;
 use std::alloc::Global;
-use step_lines::{answer_word, step_code};
 use worker_core::{LaneIn, LaneOut, Queue};
 use world_model::{Item, LANE_LIMIT, PACKET_LIMIT, Refusal};
 

@@ -1,6 +1,7 @@
 //! Each fault by its code and its text.
 
 use batch_cli::{BatchFault, CertifyFault, CheckFault, EntryFault, LinesFault, SolveFault};
+use batch_lines::GroupsFault;
 use board::{BoardFault, Move, ShapeFault, TilesFault, WeightsFault};
 use byte_streams::{ReadFailed, WriteFailed};
 use certificate::{FormatFault, ReadFault, WriteFault};
@@ -8,7 +9,6 @@ use certificate_check::Refusal;
 use database_build::TableFault;
 use lower_bound::PatternFault;
 use memory::OutOfMemory;
-use option_texts::GroupsFault;
 use pattern_index::{GroupFault, PartitionFault};
 use std::fmt::Display;
 use std::io;

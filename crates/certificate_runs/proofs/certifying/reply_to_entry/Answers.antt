@@ -1,7 +1,7 @@
 use Rattle.std.proofs.Common.{refl, string_bytes, sym, subst, ◌≡◌, None, Some, inl, inr}
 use Rattle.certificate_runs.specs.Rules.{MayReport}
 use Rattle.std.proofs.lemmas.Result.{IfOk-weaker, IfErr-weaker}
-use Rattle.reports.specs.declared.report.NoReport.{NoReport}
+use Rattle.batch_runs.specs.declared.report.NoReport.{NoReport}
 use Rattle.board.specs.Shapes.{ShapeModel}
 use Rattle.batch_lines.specs.Words.{IsEntry, IsFirstEntryFault}
 use Rattle.certificate_runs.specs.declared.faults.CertifyFault.TheVariants.{Memory}

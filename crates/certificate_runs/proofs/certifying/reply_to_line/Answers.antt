@@ -1,5 +1,5 @@
 use Rattle.std.proofs.lemmas.Result.{IfOk-weaker, IfErr-weaker}
-use Rattle.reports.specs.declared.report.NoReport.{NoReport}
+use Rattle.batch_runs.specs.declared.report.NoReport.{NoReport}
 use Rattle.std.proofs.Common.{◌≡◌}
 use Rattle.certificate_runs.specs.declared.faults.CertifyFault.TheVariants.{Memory}
 use Rattle.certificate_runs.specs.Certifying.{IsCertifyReply, IsRefusalReply, HasNoReply}

@@ -2,8 +2,8 @@ use Rattle.std.proofs.Common.{◌≡◌, ◌∙◌, ap, subst}
 use Rattle.byte_streams.specs.Streams.{from_to}
 use Rattle.outcomes.specs.declared.outcome.Ending.{Ending}
 use Rattle.outcomes.specs.Endings.{without_rows}
-use Rattle.reports.specs.Readings.{HasSmallNumbers}
-use Rattle.reports.specs.Reports.{outcome_data, report_text}
+use Rattle.batch_runs.specs.ReportReadings.{HasSmallNumbers}
+use Rattle.batch_runs.specs.Reports.{outcome_data, report_text}
 use Rattle.replay_runs.specs.Replies.{replay_status_of}
 use Rattle.replay_runs.proofs.ReadLemmas.{finishes, finishes_part}
 use Rattle.replay_runs.proofs.stepping.replay_steps.Goals as goal

@@ -1,7 +1,7 @@
 use Rattle.std.proofs.Common.{rules, arith, ◌≡◌, ◌++◌, ◌∷◌, [], Vec, sym, ◌∙◌, Some, length, replicate}
 use Rattle.std.specs.Prelude.{slice_get, slice_index_or}
 use Rattle.std.specs.declared.alloc.Global.{Global}
-use Rattle.rings.specs.Rings.{SenderModel, ReceiverModel, out_rings, in_rings, sent_lanes, received_lanes, rings_of_outs, rings_of_ins}
+use Rattle.thread_parts.specs.Rings.{SenderModel, ReceiverModel, out_rings, in_rings, sent_lanes, received_lanes, rings_of_outs, rings_of_ins}
 use Rattle.thread_parts.specs.Parts.{face}
 use Rattle.thread_runs.proofs.LawLemmas.{each_more, row_is, row_same, IsFace, joint_of}
 use Rattle.thread_runs.proofs.opening.open_parts.Goals as goal

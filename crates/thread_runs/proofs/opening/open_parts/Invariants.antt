@@ -1,7 +1,7 @@
 use Rattle.std.proofs.Common.{◌≡◌, ℕ, ◌+◌, ◌<◌, ◌≤◌, vec_len, Some}
 use Rattle.std.specs.Prelude.{slice_get}
 use Rattle.std.specs.Vec.{vec_capacity}
-use Rattle.rings.specs.Rings.{rings_of_outs, rings_of_ins}
+use Rattle.thread_parts.specs.Rings.{rings_of_outs, rings_of_ins}
 use Rattle.thread_parts.specs.Parts.{SealedModel}
 use Rattle.thread_runs.proofs.LawLemmas.{IsFace}
 use Rattle.thread_runs.proofs.opening.open_parts.Given as goal

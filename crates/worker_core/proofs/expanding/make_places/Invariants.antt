@@ -1,6 +1,6 @@
 use Rattle.std.proofs.Common.{◌≡◌, ◌≤◌, ℕ, ◌≢◌}
 use Rattle.open_buckets.specs.OpenLists.{places_at}
-use Rattle.offers.specs.Offers.{OfEach}
+use Rattle.owners.specs.Offers.{OfEach}
 use Rattle.search_lists.specs.Lists.{HasMoreRoom}
 use Rattle.worker_core.specs.Expanding.{HasAllPlaces}
 use Rattle.worker_core.proofs.ExpandLemmas.{HavePlaces}

@@ -3,7 +3,7 @@ use Rattle.world_model.specs.Turns.{refusal_in, turn}
 use Rattle.world_model.specs.Workers.{Role}
 use Rattle.world_model.specs.WorkerSteps.{ExpandStep}
 use Rattle.world_model.specs.Worlds.{role_of}
-use Rattle.offers.specs.Terms.{TermsModel}
+use Rattle.owners.specs.Terms.{TermsModel}
 use Rattle.worker_core.specs.Ahead.{AreFoundAhead}
 use Rattle.worker_core.specs.Expanding.{ExpandStepFor}
 use Rattle.worker_core.specs.Workers.{state_of}

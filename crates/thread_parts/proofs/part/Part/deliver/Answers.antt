@@ -1,6 +1,6 @@
 use Rattle.std.proofs.Common.{◌<◌, ◌≡◌, [], length, inl, inr, refl, sym, subst, ◌∙◌, arith}
 use Rattle.std.proofs.lemmas.Result.{on_ok_weaker, on_err_weaker}
-use Rattle.thread_model.specs.Parts.{Keeps}
+use Rattle.world_model.specs.ThreadParts.{Keeps}
 use Rattle.thread_parts.specs.Parts.{part_state, role_of_part}
 use Rattle.thread_parts.proofs.PartLemmas.{answered, receives, none_received, in_kept, with_in, left_at, at_empty, deliver_by_ring, none_seen, in_count, holds_after}
 use Rattle.worker_core.specs.Workers.{state_of}

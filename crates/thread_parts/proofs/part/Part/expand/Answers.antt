@@ -2,7 +2,7 @@ use Rattle.std.proofs.Common.{inr, subst, sym}
 use Rattle.world_model.specs.Turns.{refusal_in, turn}
 use Rattle.world_model.specs.Workers.{Role}
 use Rattle.world_model.specs.WorkerSteps.{ExpandOnwardStep}
-use Rattle.offers.specs.Terms.{TermsModel}
+use Rattle.owners.specs.Terms.{TermsModel}
 use Rattle.worker_core.specs.Ahead.{AreFoundAhead}
 use Rattle.worker_core.specs.Workers.{state_of}
 use Rattle.thread_parts.specs.Parts.{part_state, role_of_part}

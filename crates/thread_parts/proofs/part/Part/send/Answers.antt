@@ -1,7 +1,7 @@
 use Rattle.std.proofs.Common.{◌<◌, ◌≡◌, length, inl, inr, refl, sym, ap, subst, arith}
 use Rattle.std.proofs.lemmas.Result.{on_ok_weaker, on_err_weaker}
-use Rattle.rings.specs.Rings.{SenderModel}
-use Rattle.thread_model.specs.Parts.{Keeps}
+use Rattle.thread_parts.specs.Rings.{SenderModel}
+use Rattle.world_model.specs.ThreadParts.{Keeps}
 use Rattle.thread_parts.specs.Parts.{part_state, role_of_part}
 use Rattle.thread_parts.proofs.PartLemmas.{answered, sends, none_sent, out_kept, with_out, full_lane, at_full, send_by_ring, out_count, holds_after}
 use Rattle.thread_parts.proofs.part.Part.send.Goals as goal

@@ -4,8 +4,8 @@ use Rattle.std.specs.FinMap as map
 use Rattle.board.specs.declared.moves.Move.{Move}
 use Rattle.search_keys.specs.SearchKeys.{search_key}
 use Rattle.closed_table.specs.Tables.{ClosedModel}
-use Rattle.offers.specs.Offers.{AreOffered, item_by}
-use Rattle.offers.specs.Room.{HasRoom}
+use Rattle.owners.specs.Offers.{AreOffered, item_by}
+use Rattle.owners.specs.Room.{HasRoom}
 use Rattle.successor_sums.specs.Unpacked.{but}
 use Rattle.world_model.specs.Costs.{limit_of}
 use Rattle.world_model.specs.Knowledge.{Knowledge}

@@ -1,6 +1,6 @@
 use Rattle.std.proofs.Common.{ℕ, ◌-◌, refl, sym, ap, ◌∙◌}
 use Rattle.board.specs.declared.moves.Move.{Move}
-use Rattle.offers.specs.Offers.{item_by}
+use Rattle.owners.specs.Offers.{item_by}
 use Rattle.successor_sums.specs.Unpacked.{but}
 use Rattle.world_model.specs.Workers.{WorkerState}
 use Rattle.worker_core.specs.Expanding.{all_taken, in_turn}

@@ -1,7 +1,7 @@
 use Rattle.std.proofs.Common.{◌+◌, ◌<◌, List, drop, length, refl, sym, ap, ◌∙◌, subst, arith}
 use Rattle.board.specs.declared.moves.Move.{Move}
-use Rattle.offers.specs.declared.offer.Offer.{Offer}
-use Rattle.offers.proofs.OfferLemmas.{entries_on}
+use Rattle.owners.specs.declared.offer.Offer.{Offer}
+use Rattle.owners.proofs.OfferLemmas.{entries_on}
 use Rattle.successor_sums.specs.ByMoves.{entries_of}
 use Rattle.world_model.specs.Workers.{WorkerState}
 use Rattle.worker_core.specs.Expanding.{IsReady, stock, AddsUpBy}

@@ -2,7 +2,7 @@ use Rattle.std.proofs.Common.{ℕ, ◌≡◌, drop, length, Option}
 use Rattle.std.specs.Prelude.{IfSome}
 use Rattle.board.specs.declared.moves.Move.{Move}
 use Rattle.board.specs.Boards.{BoardModel, IsBoard}
-use Rattle.offers.specs.Offers.{AreOffered, OfEach}
+use Rattle.owners.specs.Offers.{AreOffered, OfEach}
 use Rattle.outcomes.specs.Outcomes.{Task}
 use Rattle.search_lists.specs.Orders.{Guide}
 use Rattle.successor_sums.specs.ByMoves.{entries_of}

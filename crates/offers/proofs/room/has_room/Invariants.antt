@@ -1,8 +1,0 @@
-use Rattle.std.specs.Prelude.{ℕ, ◌+◌, ◌<◌, ◌≤◌, [], length, map, slice_index_or}
-use Rattle.world_model.specs.declared.limits.TheConstants.{PACKET_LIMIT}
-use Rattle.offers.specs.Room.{go}
-use Rattle.offers.proofs.room.has_room.Given as goal
-
--- the packets so far have room
-abbrev pub invariant-packets : goal.invariant-packets
-invariant-packets l = (to : ℕ) → to < l.to → length (slice_index_or (map (λ v. v.items) l.unsent) to []) + go l.me to l.offers ≤ PACKET_LIMIT

@@ -1,9 +1,0 @@
-use Rattle.std.proofs.Common.{◌≡◌, ℕ, List, map}
-use Rattle.std.specs.Borrow.{Bor}
-use Rattle.option_texts.specs.Texts.{weight_number}
-use Rattle.option_texts.proofs.weights.weights_in.Given as goal
-
-abbrev pub invariant-words : goal.invariant-words
-invariant-words l =
-    goal.iterator-words.can_next l.word-iterator × goal.iterator-words.is_finite l.word-iterator
-    × (l.weights.items ≡ map (λ (word : Bor (List ℕ)). weight_number word.now) l.yielded)

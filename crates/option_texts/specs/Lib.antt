@@ -1,4 +1,0 @@
-pub mod Texts
-pub mod Faults
-pub mod Defaults
-pub mod Laws

@@ -1,0 +1,11 @@
+use Rattle.std.proofs.Common.{◌≡◌, ◌<◌, ◌^◌, take, true}
+use Rattle.std.specs.List.{list_all}
+use Rattle.std.specs.Char.{is_ascii_digit}
+use Rattle.std.specs.Str.Parse.{digits_value}
+use Rattle.replay_runs.proofs.steps.number_of.Given as goal
+
+abbrev pub invariant-digits : goal.invariant-digits
+invariant-digits l =
+    (list_all is_ascii_digit (take l.byte-index l.word) ≡ true)
+    × (l.number ≡ digits_value 10 (take l.byte-index l.word))
+    × (l.number < 10 ^ l.byte-index)

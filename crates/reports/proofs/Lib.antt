@@ -1,2 +1,0 @@
-pub mod TextLemmas
-pub mod ReadLemmas

@@ -1,3 +1,0 @@
-pub mod Reports
-pub mod Readings
-pub mod Laws

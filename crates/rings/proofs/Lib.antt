@@ -1,2 +1,0 @@
-pub mod EndLemmas
-pub mod GridLemmas

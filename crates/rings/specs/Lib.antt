@@ -1,2 +1,0 @@
--- The rings of a run.
-pub mod Rings

@@ -1,2 +1,0 @@
-mod StepLemmas
-mod WorkedLemmas

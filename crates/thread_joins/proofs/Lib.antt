@@ -1,2 +1,0 @@
-pub mod TakenLemmas
-pub mod WorldLemmas

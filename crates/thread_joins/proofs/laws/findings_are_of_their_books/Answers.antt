@@ -1,5 +1,0 @@
-use Rattle.thread_joins.proofs.WorldLemmas.{books_say, grants_spent}
-use Rattle.thread_joins.proofs.laws.findings_are_of_their_books.Goals as goal
-
-pub returns : goal.returns
-returns g c = record { found = books_say g.A.Reading.gives g.S.Spread.owner_of; spent = grants_spent g.A.Reading.gives g.S.Spread.owner_of }

@@ -1,5 +1,0 @@
-use Rattle.thread_joins.proofs.WorldLemmas.{no_credit, still, grants_counted}
-use Rattle.thread_joins.proofs.laws.quiet_is_at_rest.Goals as goal
-
-pub returns : goal.returns
-returns c = record { credit = no_credit; still = still; granted = grants_counted }

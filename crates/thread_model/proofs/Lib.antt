@@ -1,4 +1,0 @@
-pub mod WorkerKept
-pub mod LaneKept
-pub mod JoinedLemmas
-pub mod RunParts

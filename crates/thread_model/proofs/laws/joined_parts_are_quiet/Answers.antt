@@ -1,5 +1,0 @@
-use Rattle.thread_model.proofs.JoinedLemmas.{joined_parts_quiet}
-use Rattle.thread_model.proofs.laws.joined_parts_are_quiet.Goals as goal
-
-pub returns : goal.returns
-returns c = joined_parts_quiet
