@@ -67,33 +67,33 @@ page_more size (q ∷ ps) p full here = (full.0, page_more size ps p full.1 here
 
 -- a place in the list is that of an item in a page
 module _ {T Z : Type 0} (ps : List (Vec T Z)) (pages : ArePages ps) (xs : List T) (view : items_of ps ≡ xs) (place : ℕ) (lt : place < length xs) where
-  pub has_page : place / 128 < length ps
+  pub has_page : place / 1024 < length ps
   has_page =
-      let size : length xs ≡ length ps * 128 = ap length (sym view) ∙ length_of_pages 128 ps pages.full in
+      let size : length xs ≡ length ps * 1024 = ap length (sym view) ∙ length_of_pages 1024 ps pages.full in
       omega arith
 
-  pub in_page : (page : Vec T Z) → page ≡ get_or ps (place / 128) page → place % 128 < vec_len page
+  pub in_page : (page : Vec T Z) → page ≡ get_or ps (place / 1024) page → place % 1024 < vec_len page
   in_page page is =
-      let full : length page.items ≡ 128 = ap (λ p. length p.items) is ∙ size_of_page 128 ps (place / 128) page pages.full has_page in
+      let full : length page.items ≡ 1024 = ap (λ p. length p.items) is ∙ size_of_page 1024 ps (place / 1024) page pages.full has_page in
       let len : vec_len page ≡ length page.items = page.ok.0 in
       omega arith
 
-  pub item_there : (page : Vec T Z) (item : T) → page ≡ get_or ps (place / 128) page → get_or page.items (place % 128) item ≡ get_or xs place item
+  pub item_there : (page : Vec T Z) (item : T) → page ≡ get_or ps (place / 1024) page → get_or page.items (place % 1024) item ≡ get_or xs place item
   item_there page item is =
-      let cut : place / 128 * 128 + place % 128 ≡ place = omega arith in
-      ap (λ p. get_or p.items (place % 128) item) is ∙ sym (at_page 128 ps (place / 128) (place % 128) page item pages.full has_page (omega arith)) ∙ ap (λ i. get_or (items_of ps) i item) cut ∙ ap (λ ys. get_or ys place item) view
+      let cut : place / 1024 * 1024 + place % 1024 ≡ place = omega arith in
+      ap (λ p. get_or p.items (place % 1024) item) is ∙ sym (at_page 1024 ps (place / 1024) (place % 1024) page item pages.full has_page (omega arith)) ∙ ap (λ i. get_or (items_of ps) i item) cut ∙ ap (λ ys. get_or ys place item) view
 
-  module _ (page : Vec T Z) (item : T) (is : page ≡ get_or ps (place / 128) page) where
-    pub put_there : items_of (set ps (place / 128) (with_item page (place % 128) item)) ≡ set xs place item
+  module _ (page : Vec T Z) (item : T) (is : page ≡ get_or ps (place / 1024) page) where
+    pub put_there : items_of (set ps (place / 1024) (with_item page (place % 1024) item)) ≡ set xs place item
     put_there =
-        let cut : place / 128 * 128 + place % 128 ≡ place = omega arith in
-        ap (λ p. items_of (set ps (place / 128) (with_item p (place % 128) item))) is ∙ put_page 128 ps (place / 128) (place % 128) page item pages.full has_page (omega arith)
+        let cut : place / 1024 * 1024 + place % 1024 ≡ place = omega arith in
+        ap (λ p. items_of (set ps (place / 1024) (with_item p (place % 1024) item))) is ∙ put_page 1024 ps (place / 1024) (place % 1024) page item pages.full has_page (omega arith)
         ∙ ap (λ i. set (items_of ps) i item) cut ∙ ap (λ ys. set ys place item) view
 
-    pub pages_there : ArePages (set ps (place / 128) (with_item page (place % 128) item))
+    pub pages_there : ArePages (set ps (place / 1024) (with_item page (place % 1024) item))
     pages_there =
-        let same : length (set ps (place / 128) (with_item page (place % 128) item)) ≡ length ps = length-set ps (place / 128) (with_item page (place % 128) item) in
+        let same : length (set ps (place / 1024) (with_item page (place % 1024) item)) ≡ length ps = length-set ps (place / 1024) (with_item page (place % 1024) item) in
         record {
-          full = subst (λ (p : Vec T Z). HaveSize 128 (set ps (place / 128) (with_item p (place % 128) item))) (sym is) (size_kept 128 ps (place / 128) (place % 128) page item pages.full has_page);
-          few = subst (λ (n : ℕ). n ≤ 33554432) (sym same) pages.few;
+          full = subst (λ (p : Vec T Z). HaveSize 1024 (set ps (place / 1024) (with_item p (place % 1024) item))) (sym is) (size_kept 1024 ps (place / 1024) (place % 1024) page item pages.full has_page);
+          few = subst (λ (n : ℕ). n ≤ 4194304) (sym same) pages.few;
         }

@@ -11,10 +11,10 @@ use std::marker::Model;
 use std::vec::Vec;
 
 /// How many items a page has.
-pub const PAGE_LENGTH: usize = 128;
+pub const PAGE_LENGTH: usize = 1024;
 
 /// The most pages. They have 2^32 items, so a place fits 32 bits.
-const PAGE_LIMIT: usize = 33_554_432;
+const PAGE_LIMIT: usize = 4_194_304;
 
 /// A list in pages. Adding a page moves none of the others.
 #[derive(Drop)]

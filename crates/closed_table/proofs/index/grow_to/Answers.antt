@@ -7,13 +7,13 @@ use Rattle.closed_table.proofs.index.grow_to.Goals as goal
 
 pub pages-smaller : goal.pages-smaller
 pages-smaller g c =
-    let size : length c.grow.new.self ≡ length c.pages.pages + 128 = ap length c.in_ok-grow.ensures.ok ∙ length-append c.pages.pages (replicate PAGE_LENGTH c.args.item) ∙ ap (λ n. length c.pages.pages + n) (length-replicate PAGE_LENGTH c.args.item) in
+    let size : length c.grow.new.self ≡ length c.pages.pages + 1024 = ap length c.in_ok-grow.ensures.ok ∙ length-append c.pages.pages (replicate PAGE_LENGTH c.args.item) ∙ ap (λ n. length c.pages.pages + n) (length-replicate PAGE_LENGTH c.args.item) in
     let few : length c.pages.pages ≤ c.args.len + c.args.count = let t = c.pages-test.true in omega (arith, c.len.ensures.len) in
     omega arith
 
 pub pages-preserved : goal.pages-preserved
 pages-preserved g c =
-    let size : length c.grow.new.self ≡ length c.pages.pages + 128 = ap length c.in_ok-grow.ensures.ok ∙ length-append c.pages.pages (replicate PAGE_LENGTH c.args.item) ∙ ap (λ n. length c.pages.pages + n) (length-replicate PAGE_LENGTH c.args.item) in
+    let size : length c.grow.new.self ≡ length c.pages.pages + 1024 = ap length c.in_ok-grow.ensures.ok ∙ length-append c.pages.pages (replicate PAGE_LENGTH c.args.item) ∙ ap (λ n. length c.pages.pages + n) (length-replicate PAGE_LENGTH c.args.item) in
     let before = c.pages.invariant.within in
     record {
       within = omega arith;

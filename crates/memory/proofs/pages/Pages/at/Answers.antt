@@ -6,7 +6,7 @@ use Rattle.memory.proofs.pages.Pages.at.Goals as goal
 pub index-page-requires : goal.index-page-requires
 index-page-requires g c =
     let ps = c.self.inside.pages.items in
-    let lt : c.args.place / 128 < length ps = has_page ps c.self.invariant c.args.self.now c.self.view_is c.args.place c.requires in
+    let lt : c.args.place / 1024 < length ps = has_page ps c.self.invariant c.args.self.now c.self.view_is c.args.place c.requires in
     let len : vec_len c.self.inside.pages ≡ length ps = c.self.inside.pages.ok.0 in
     omega arith
 

@@ -14,7 +14,7 @@ pub returns-clause-len : goal.returns-clause-len
 returns-clause-len g c =
     let ps = c.self.inside.pages.items in
     let len : vec_len c.self.inside.pages ≡ length ps = c.self.inside.pages.ok.0 in
-    ap (λ n. n * 128) (c.len.ensures ∙ len) ∙ sym (length_of_pages 128 ps c.self.invariant.full) ∙ ap length c.self.view_is
+    ap (λ n. n * 1024) (c.len.ensures ∙ len) ∙ sym (length_of_pages 1024 ps c.self.invariant.full) ∙ ap length c.self.view_is
 
 pub returns-clause-few : goal.returns-clause-few
 returns-clause-few g c =
