@@ -4,6 +4,7 @@ ghost use Rattle.std.specs.Prelude.{◌≡◌, codes, false};
 ghost use Rattle.clap.specs.Words.{App, new_app, rule_of};
 ghost use Rattle.command_line.specs.Commands.{IsReadAs, MakesCommand, option_rule, side_rule};
 ghost use Rattle.command_line.specs.Commands.{text_rule, parsed_rule, flag_rule, count_rule};
+ghost use Rattle.command_line.specs.Commands.{number_rule};
 ghost use Rattle.command_line.specs.Commands.{sided_app};
 ghost use Rattle.command_line.specs.Commands.{stated_app, puzzle_app, solve_app, show_app};
 ghost use Rattle.command_line.specs.Commands.{boards_app};
@@ -163,12 +164,22 @@ fn puzzle<'a>(
             ValueParser::Names(spreads),
             "zobrist",
         ))?
-        .arg(parsed(
-            option(alloc, "limit", "N", limit),
-            ValueParser::Unsigned(0, u64::MAX),
-            "18446744073709551615",
-        ))?;
+        .arg(limiting(alloc, limit))?;
     Ok(command)
+}
+
+// The option `--limit`. Its text says in short what is 20 digits long.
+fn limiting<'a>(alloc: Global, limit: &'a str) -> Arg<'a>
+    ensures rule { rule_of result
+        ≡ number_rule (codes "limit") 0 18446744073709551615 (codes "18446744073709551615") }
+    ensures local { result.global ≡ false }
+{
+    let every = parsed(
+        option(alloc, "limit", "N", limit),
+        ValueParser::Unsigned(0, u64::MAX),
+        "18446744073709551615",
+    );
+    every.hide_default_value(true)
 }
 
 // A subcommand with the options that say a puzzle.

@@ -57,6 +57,12 @@ Examples:
     tilesolve check
   echo 'd 8 0 6 5 4 7 2 3 1' | tilesolve solve --rows 3 --cols 3 --cost 255,255,1,1,1,1,1,1
 
+Status of a report:
+  optimal     with a plan of least cost, whose letters move the blank: U up, L left, R right, D down
+  unsolvable  no plan exists
+  bounded     the search ended early, and no plan costs less than the bound
+  refused     the line is not a board, or out of memory; the fault is one of the codes below
+
 Exit status:
   0  every line is optimal or unsolvable
   1  some line is bounded or refused
@@ -176,6 +182,10 @@ Examples:
     tilesolve replay --rows 2 --cols 2 --workers 2 --spread blank --groups none
   printf 'c 1 0 2 3\\nhalt 0 memory\\n' | tilesolve replay --rows 2 --cols 2
 
+Steps, of worker i, and of i with j:
+  expand i, settle i, send i j, deliver i j, draw i, announce i, grant i, rest i,
+  halt i limit, halt i memory, halt i start
+
 Exit status:
   0  the report is optimal or unsolvable, and every line is a step
   1  the report is bounded or refused, or some line is not a step (B4)
@@ -183,7 +193,7 @@ Exit status:
   3  standard input can't be read (B1) or standard output can't be written (B2)
   4  out of memory for the tables (memory) or for a report (B3)
 
-Steps, answers and codes: CLI.md, in docs or share/doc/tilesolve";
+What the steps do, answers and codes: CLI.md, in docs or share/doc/tilesolve";
 
 /// What `boards` does.
 pub(crate) const BOARDS: &str = "List boards to solve";
@@ -247,11 +257,14 @@ Divide boards among workers by a hash of all tiles (zobrist), the blank's
 cell (blank) or a hash of every fourth tile (abstract, mostly the fastest)";
 
 /// The option `--limit`.
-pub(crate) const LIMIT: &str = "Maximum number of boards to expand for each line, 0 or more";
+pub(crate) const LIMIT: &str = "\
+Maximum number of boards to expand for each line, 0 or more
+[default: 2^64 - 1]";
 
 /// The option `--limit` of `replay`.
-pub(crate) const REPLAYED_LIMIT: &str =
-    "Maximum number of boards that the workers expand in all, 0 or more";
+pub(crate) const REPLAYED_LIMIT: &str = "\
+Maximum number of boards that the workers expand in all, 0 or more
+[default: 2^64 - 1]";
 
 /// The option `--cert`.
 pub(crate) const CERT: &str = "\
