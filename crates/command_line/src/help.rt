@@ -245,8 +245,9 @@ only the least value over the blank's cells. This takes less memory but
 expands more boards. Plans cost the same";
 
 /// The option `--workers`.
-pub(crate) const WORKERS: &str =
-    "Number of workers, 1 to 16: they solve lines side by side, or share one";
+pub(crate) const WORKERS: &str = "\
+Number of workers, 1 to 16: they solve lines side by side,
+or share one";
 
 /// The option `--workers` of `replay`.
 pub(crate) const REPLAYED_WORKERS: &str = "Number of workers that share the board, 1 to 16";
@@ -254,7 +255,8 @@ pub(crate) const REPLAYED_WORKERS: &str = "Number of workers that share the boar
 /// The option `--spread`.
 pub(crate) const SPREAD: &str = "\
 Divide boards among workers by a hash of all tiles (zobrist), the blank's
-cell (blank) or a hash of every fourth tile (abstract, mostly the fastest)";
+cell (blank) or a hash of every fourth tile (abstract, mostly the
+fastest)";
 
 /// The option `--limit`.
 pub(crate) const LIMIT: &str = "\
