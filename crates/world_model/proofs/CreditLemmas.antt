@@ -32,7 +32,7 @@ use Rattle.world_model.specs.declared.steps.BookFault.TheVariants.{RunStopped, N
 use Rattle.world_model.specs.BookCalls.{Account, BookAnnounce, BookDraw, BookGrant, BookHalt, BookRest}
 use Rattle.world_model.specs.BookLaws.{CallsHaveAnswers, account_of}
 use Rattle.world_model.specs.Outcomes.{floor}
-use Rattle.world_model.proofs.StepCases.{IsRunning, Expands, Settles, Sends, Delivers, Draws, Announces, Grants, Rests, Halts, Cases, OwnChange, BookChange, Accepts, next_cases}
+use Rattle.world_model.proofs.StepCases.{IsRunning, Expands, Settles, SendsOnLane, Delivers, Draws, Announces, Grants, Rests, Halts, Cases, OwnChange, BookChange, Accepts, next_cases}
 use Rattle.world_model.proofs.ChangeLemmas.{is_empty, sum_set, part_le, entry, with_insert, lowered_by, same_known, changed, worker_there, worker_after, worker_before, packets_after}
 use Rattle.world_model.proofs.ExpandLemmas.{all_lower, all_rest}
 
@@ -81,14 +81,15 @@ pub record KeepsCredit (role : Role) (worker : WorkerState) (book : BookState) (
 abbrev KeepsGoal : Task → WorkerState → WorkerState → Type 0
 KeepsGoal task worker worker' = (known : Known) → KnowsAs worker task.goal known → (known' : Known) × KnowsAs worker' task.goal known' × (known'.cost ≤ known.cost)
 
-none_unsent : (xs : List Packet) → ¬ (¬ All (λ packet. packet ≡ []) xs) → All (λ packet. packet ≡ []) xs
-none_unsent xs not k d lt = is_empty (get_or xs k d) (λ some. not (λ all. some (all k d lt)))
+-- packets that aren't known to hold an item hold none
+unsent_stable : (xs : List Packet) → ¬ (¬ All (λ packet. packet ≡ []) xs) → All (λ packet. packet ≡ []) xs
+unsent_stable xs not k d lt = is_empty (get_or xs k d) (λ some. not (λ all. some (all k d lt)))
 
 -- a worker that isn't known to have something to do has nothing to do
-idle_stable : (task : Task) (worker : WorkerState) (limit : ℕ) (best : Option ℕ) → ¬ (¬ IsIdle task worker limit best) → IsIdle task worker limit best
+pub idle_stable : (task : Task) (worker : WorkerState) (limit : ℕ) (best : Option ℕ) → ¬ (¬ IsIdle task worker limit best) → IsIdle task worker limit best
 idle_stable task worker limit best not = record {
   holds_nothing = is_empty worker.held (λ some. not (λ idle. some idle.holds_nothing));
-  sends_nothing = none_unsent worker.unsent (λ some. not (λ idle. some idle.sends_nothing));
+  sends_nothing = unsent_stable worker.unsent (λ some. not (λ idle. some idle.sends_nothing));
   no_board = λ b known at. ⊎_elim (λ (lt : known.cost + task.sum b < limit). absurd (not (λ idle. let le = idle.no_board b known at in omega arith))) (λ (le : limit ≤ known.cost + task.sum b). le) (cases_lt (known.cost + task.sum b) limit);
   no_better_goal = λ cost at. not_below_stable (Some cost) best (λ lower. not (λ idle. lower (idle.no_better_goal cost at)));
 }
@@ -179,7 +180,7 @@ module _ (role : Role) (worker : WorkerState) (book : BookState) (funded : IsFun
       not_held : worker.held ≡ [] → ⊥
       not_held none = let n = ap length (sym none ∙ step.held) in let m = length-append step.front (step.last ∷ []) in omega arith
 
-  pub send_credit : (to : ℕ) (lane : Lane) (new : AtLane) → Sends to (record { worker = worker; lane = lane }) new → KeepsCredit role worker book (length lane) new.worker book (length new.lane)
+  pub send_credit : (to : ℕ) (lane : Lane) (new : AtLane) → SendsOnLane to (record { worker = worker; lane = lane }) new → KeepsCredit role worker book (length lane) new.worker book (length new.lane)
   send_credit to lane new step =
       let two : 2 ≤ worker.purse = ⊎_elim (λ (lt : worker.purse < 2). absurd (step.rich lt)) (λ (le : 2 ≤ worker.purse). le) (cases_lt worker.purse 2) in
       subst (λ (x : AtLane). KeepsCredit role worker book (length lane) x.worker book (length x.lane)) (sym step.is)
@@ -213,11 +214,11 @@ module _ (role : Role) (worker : WorkerState) (book : BookState) (funded : IsFun
   abbrev here : AtBook
   here = record { worker = worker; book = book }
 
-  abbrev Keeps : AtBook → Type 0
-  Keeps new = KeepsCredit role worker book 0 new.worker new.book 0
+  abbrev KeepsCreditAtBook : AtBook → Type 0
+  KeepsCreditAtBook new = KeepsCredit role worker book 0 new.worker new.book 0
 
-  pub draw_credit : (new : AtBook) → Draws here new → Keeps new
-  draw_credit new step = subst Keeps (sym step.is) (record {
+  pub draw_credit : (new : AtBook) → Draws here new → KeepsCreditAtBook new
+  draw_credit new step = subst KeepsCreditAtBook (sym step.is) (record {
     mine = mine_after (worker.purse + CREDIT_DRAWN) worker.allowance funded.mine.allowance (λ z. absurd (omega arith));
     best = not_below_itself book.best;
     by_owner = λ other. refl;
@@ -229,8 +230,8 @@ module _ (role : Role) (worker : WorkerState) (book : BookState) (funded : IsFun
     at_quiet = λ s. absurd (not_running book Quiet step.runs s);
   })
 
-  pub grant_credit : (new : AtBook) → Grants role here new → Keeps new
-  grant_credit new step = subst Keeps (sym step.is) (record {
+  pub grant_credit : (new : AtBook) → Grants role here new → KeepsCreditAtBook new
+  grant_credit new step = subst KeepsCreditAtBook (sym step.is) (record {
     mine = mine_after worker.purse (worker.allowance + grant_of book) (omega (arith, zero_allowance)) (λ z. absurd (busy_purse z));
     best = not_below_itself book.best;
     by_owner = λ other. refl;
@@ -248,8 +249,8 @@ module _ (role : Role) (worker : WorkerState) (book : BookState) (funded : IsFun
       busy_purse : worker.purse ≡ 0 → ⊥
       busy_purse z = step.busy (λ b known at. let le = (funded.mine.idle z).no_board b known at in let le' = limit_falls worker.best book.best funded.mine.copy in omega arith)
 
-  pub announce_credit : (new : AtBook) → Announces role here new → Keeps new
-  announce_credit new step = subst Keeps (sym step.is) (record {
+  pub announce_credit : (new : AtBook) → Announces role here new → KeepsCreditAtBook new
+  announce_credit new step = subst KeepsCreditAtBook (sym step.is) (record {
     mine = record {
       allowance = funded.mine.allowance;
       copy = omega arith;
@@ -266,8 +267,8 @@ module _ (role : Role) (worker : WorkerState) (book : BookState) (funded : IsFun
     at_quiet = λ s. absurd (not_running book Quiet step.runs s);
   })
 
-  pub rest_credit : (new : AtBook) → Rests role here new → Keeps new
-  rest_credit new step = subst Keeps (sym step.is) (record {
+  pub rest_credit : (new : AtBook) → Rests role here new → KeepsCreditAtBook new
+  rest_credit new step = subst KeepsCreditAtBook (sym step.is) (record {
     mine = mine_after 0 worker.allowance funded.mine.allowance (λ z. rests_idle);
     best = not_below_itself book.best;
     by_owner = λ other. refl;
@@ -316,8 +317,8 @@ module _ (role : Role) (worker : WorkerState) (book : BookState) (funded : IsFun
   halted_quiet (causes.TheVariants.Memory want) s = cc
   halted_quiet causes.TheVariants.Start s = cc
 
-  pub halt_credit : (cause : HaltCause) (new : AtBook) → Halts cause here new → Keeps new
-  halt_credit cause new step = subst Keeps (sym step.is) (record {
+  pub halt_credit : (cause : HaltCause) (new : AtBook) → Halts cause here new → KeepsCreditAtBook new
+  halt_credit cause new step = subst KeepsCreditAtBook (sym step.is) (record {
     mine = mine_after worker.purse worker.allowance funded.mine.allowance (λ z. idle_after worker.allowance z);
     best = not_below_itself book.best;
     by_owner = λ other. refl;

@@ -1,15 +1,14 @@
 -- A part keeps what it keeps from its opening on, by packets sent and taken in, and by steps on the book.
-use Rattle.std.proofs.Common.{◌≡◌, ◌≢◌, ℕ, false, [], refl, sym, ap, ◌∙◌, subst, inl, ⊎_elim, arith, Option, Some, None, replicate, ◌⊎◌, ◌+◌, ◌-◌, ◌<◌, ◌≤◌, List, ◌∷◌, ◌++◌, length, inr, get_or}
+use Rattle.std.proofs.Common.{◌≡◌, ◌≢◌, ℕ, false, [], refl, sym, ap, ◌∙◌, subst, inl, ⊎_elim, arith, Option, Some, None, replicate, ◌⊎◌, ◌+◌, ◌-◌, ◌<◌, ◌≤◌, List, ◌∷◌, ◌++◌, length, inr}
 use Rattle.std.specs.Ordering.{nat_cmp}
 use Rattle.std.specs.FinMap as map
-use Rattle.std.proofs.lemmas.Bool.{true≢false, cases_eq, cases_lt}
+use Rattle.std.proofs.lemmas.Bool.{true≢false, cases_eq}
 use Rattle.std.proofs.lemmas.List.{length-replicate, length-set}
 use Rattle.std.proofs.lemmas.List.Elements.{All-replicate, Contains-append_left, Contains-push, Contains-push_cases}
-use Rattle.std.specs.Prelude.{Contains, slice_get, slice_set, unwrap_or, All}
+use Rattle.std.specs.Prelude.{Contains, slice_get, slice_set, unwrap_or}
 use Rattle.board.specs.declared.moves.Move.{Move}
 use Rattle.board.specs.Boards.{BoardModel}
 use Rattle.search_keys.specs.SearchKeys.{search_key}
-use Rattle.outcomes.specs.Outcomes.{Task}
 use Rattle.world_model.specs.declared.parts.Item.{Item}
 use Rattle.world_model.specs.declared.parts.Known.{Known}
 use Rattle.world_model.specs.Knowledge.{Knowledge}
@@ -17,15 +16,15 @@ use Rattle.world_model.specs.Openings.{first_worker, idle_worker}
 use Rattle.world_model.specs.Shapes.{IsPacketFor, IsShapedWorker, IsItemFor}
 use Rattle.world_model.specs.Workers.{IsIdle, IsTaskBoard, KnowsAs, Role, WorkerState, Lane, Packet, packet_for}
 use Rattle.world_model.specs.Costs.{limit_of}
-use Rattle.world_model.proofs.ChangeLemmas.{at_replicate, none_in, none_in_empty, get_inserted, same_search_key, with_insert, get_set_same, get_set_other, at_set, some_in, get_below, is_empty}
+use Rattle.world_model.proofs.ChangeLemmas.{at_replicate, none_in, none_in_empty, get_inserted, same_search_key, with_insert, get_set_same, get_set_other, at_set, some_in, get_below}
 use Rattle.world_model.specs.declared.limits.TheConstants.{PACKET_LIMIT, CREDIT_DRAWN}
-use Rattle.world_model.proofs.ShapeKept.{shaped_same, shaped_sent, some_unsent}
+use Rattle.world_model.proofs.ShapeKept.{no_items, shaped_same, shaped_sent, some_unsent}
 use Rattle.world_model.specs.declared.steps.HaltCause.{HaltCause}
 use Rattle.world_model.specs.declared.steps.Refusal.{Refusal}
 use Rattle.world_model.specs.BookSteps.{AtBook}
 use Rattle.world_model.specs.Books.{BookState, grant_of}
 use Rattle.world_model.specs.Turns.{turn}
-use Rattle.world_model.proofs.CreditLemmas.{not_below_stable}
+use Rattle.world_model.proofs.CreditLemmas.{idle_stable}
 use Rattle.world_model.proofs.StepCases.{Announces, Cases, Draws, Grants, Halts, Rests, announce_cases, draw_cases, grant_cases, halt_cases, rest_cases}
 use Rattle.world_model.specs.PartChanges.{opening_part, with_packet, IsBookStep, part_with_worker}
 use Rattle.world_model.specs.ThreadLaws.{OpeningsAreKept, ReceivingIsKept, SendingIsKept, BookStepsAreKept}
@@ -38,9 +37,6 @@ none_among : (n i : ℕ) (item : Item) → IsAmong (replicate n []) i item → �
 none_among n i item among = none_in_empty among.0 among.1 (at_replicate n i [] among.0 among.2) among.3
 
 module _ (n : ℕ) (role : Role) (is : IsRole n role) where
-  no_items : (to : ℕ) → IsPacketFor role.task role.owner to []
-  no_items to = record { few = omega arith; items = λ item has. absurd (none_in item has) }
-
   start_board : IsTaskBoard role.task role.task.start
   start_board = (is.task.start, is.task.sides)
 
@@ -57,9 +53,9 @@ module _ (n : ℕ) (role : Role) (is : IsRole n role) where
       beginner_shaped : IsShapedWorker n role beginner
       beginner_shaped = record {
         known = λ key known at. let h = only key known at in (role.task.start, start_board, sym h.0, h.1, omega (arith, h.2));
-        held = no_items role.me;
+        held = no_items role role.me;
         lists = length-replicate n [];
-        unsent = λ to packet at. subst (IsPacketFor role.task role.owner to) (sym (at_replicate n to [] packet at)) (no_items to);
+        unsent = λ to packet at. subst (IsPacketFor role.task role.owner to) (sym (at_replicate n to [] packet at)) (no_items role to);
       }
 
       known_start : (b : BoardModel) (known : Known) → IsTaskBoard role.task b → KnowsAs beginner b known → (b ≡ role.task.start) × (known.cost ≡ 0)
@@ -306,18 +302,6 @@ pub receiving_kept : ReceivingIsKept
 receiving_kept n from role part part' is below keeps (packet, free, some, few, after) = subst (Keeps n role) (sym after) (receiver_keeps n from role part below keeps packet free few)
 
 -- ---- a part that takes a step on the book keeps what it keeps
-
-nothing_unsent : (xs : List Packet) → ¬ (¬ All (λ packet. packet ≡ []) xs) → All (λ packet. packet ≡ []) xs
-nothing_unsent xs not k d lt = is_empty (get_or xs k d) (λ some. not (λ all. some (all k d lt)))
-
--- a worker that isn't known to have something to do has nothing to do
-idle_stable : (task : Task) (worker : WorkerState) (limit : ℕ) (best : Option ℕ) → ¬ (¬ IsIdle task worker limit best) → IsIdle task worker limit best
-idle_stable task worker limit best not = record {
-  holds_nothing = is_empty worker.held (λ some. not (λ idle. some idle.holds_nothing));
-  sends_nothing = nothing_unsent worker.unsent (λ some. not (λ idle. some idle.sends_nothing));
-  no_board = λ b known at. ⊎_elim (λ (lt : known.cost + task.sum b < limit). absurd (not (λ idle. let le = idle.no_board b known at in omega arith))) (λ (le : limit ≤ known.cost + task.sum b). le) (cases_lt (known.cost + task.sum b) limit);
-  no_better_goal = λ cost at. not_below_stable (Some cost) best (λ lower. not (λ idle. lower (idle.no_better_goal cost at)));
-}
 
 module _ (n : ℕ) (role : Role) (part : PartState) (keeps : Keeps n role part) where
   -- another purse and allowance, and another copy of the best cost, where a worker with no purse has nothing to do

@@ -125,10 +125,11 @@ longer w [] a x b c known by moves knows = (b, c, known, subst (λ (p : BoardMod
 longer w (m ∷ plan) a x b c known (next, d, k, first, there, via, rest) moves knows = (next, d, k, first, there, via, longer w plan next x b c known rest moves knows)
 
 module _ (w : WorldState) (shaped : IsShaped w) (sound : IsSound w) where
-  abbrev LeadsBack : BoardModel → ℕ → Type 0
-  LeadsBack b cost = (plan : List Move) × (k : ℕ) × Leads w.task.rule w.task.start plan b k × (k ≤ cost) × IsByLastMoves w w.task.start plan b
+  -- a plan of last moves leads to the board, at no more than this cost
+  abbrev IsLedByLastMoves : BoardModel → ℕ → Type 0
+  IsLedByLastMoves b cost = (plan : List Move) × (k : ℕ) × Leads w.task.rule w.task.start plan b k × (k ≤ cost) × IsByLastMoves w w.task.start plan b
 
-  back_from : (b : BoardModel) (known : Known) (m i : ℕ) → Knows w i b known → known.cost < suc m → ((j : ℕ) (x : BoardModel) (k : Known) → Knows w j x k → k.cost < m → LeadsBack x k.cost) → HasPredecessor w b known.cost known.via → LeadsBack b known.cost
+  back_from : (b : BoardModel) (known : Known) (m i : ℕ) → Knows w i b known → known.cost < suc m → ((j : ℕ) (x : BoardModel) (k : Known) → Knows w j x k → k.cost < m → IsLedByLastMoves x k.cost) → HasPredecessor w b known.cost known.via → IsLedByLastMoves b known.cost
   back_from b known m i knows low earlier (inl start) = ([], 0, (start.0, refl), omega arith, sym start.0)
   back_from b known m i knows low earlier (inr has) =
       let some = move_low w.task shaped.task has.0 has.4.board known.via b has.1 has.3 in
@@ -141,7 +142,7 @@ module _ (w : WorldState) (shaped : IsShaped w) (sound : IsSound w) where
         longer w plan.0 w.task.start has.0 b has.1 known plan.4 has.3 (subst (λ j. Knows w j b known) (sym own) knows),
       )
 
-  back_below : (m i : ℕ) (b : BoardModel) (known : Known) → Knows w i b known → known.cost < m → LeadsBack b known.cost
+  back_below : (m i : ℕ) (b : BoardModel) (known : Known) → Knows w i b known → known.cost < m → IsLedByLastMoves b known.cost
   back_below zero i b known knows low = absurd (omega arith)
   back_below (suc m) i b known knows low = back_from b known m i knows low (λ j x k at lt. back_below m j x k at lt) (sound.reached i b known knows)
 

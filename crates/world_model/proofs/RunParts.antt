@@ -25,9 +25,10 @@ use Rattle.world_model.specs.Costs.{IsNotBelow, limit_of}
 use Rattle.world_model.specs.Credit.{IsCredited}
 use Rattle.world_model.specs.Knowledge.{Knowledge}
 use Rattle.world_model.specs.Openings.{opening}
+use Rattle.world_model.specs.StepLaws.{worker_of_step}
 use Rattle.world_model.specs.Turns.{Turn, turn}
 use Rattle.world_model.specs.WorkerSteps.{AtLane, ExpandStep, SettleStep}
-use Rattle.world_model.proofs.StepCases.{IsSame, book_steps_keep, Accepts, Cases, Delivers, Expands, LaneChange, OwnChange, Sends as SendsOnLane, Settles, next_cases}
+use Rattle.world_model.proofs.StepCases.{IsSame, book_steps_keep, Accepts, Cases, Delivers, Expands, LaneChange, OwnChange, SendsOnLane, Settles, next_cases}
 use Rattle.world_model.proofs.RunLemmas.{openings_sound}
 use Rattle.world_model.proofs.ShapeKept.{shaped_same, steps_shaped}
 use Rattle.world_model.proofs.CreditLemmas.{steps_credited}
@@ -352,18 +353,6 @@ same_worker role it step = let same = book_steps_keep role (cause_of step) it (n
     named (inr (inr (inr (inl one)))) = inr (inr (inr (inl one)))
     named (inr (inr (inr (inr (cause, one))))) = inr (inr (inr (inr one)))
 
--- the worker that takes a step
-abbrev mover : Step → ℕ
-mover (Expand i) = i
-mover (Settle i) = i
-mover (Send i j) = i
-mover (Deliver i j) = i
-mover (Draw i) = i
-mover (Announce i) = i
-mover (Grant i) = i
-mover (Rest i) = i
-mover (Halt i cause) = i
-
 module _ (w : WorldState) (parts : List PartState) (of : IsOfParts w parts) where
   abbrev n : ℕ
   n = length parts
@@ -470,7 +459,7 @@ module _ (w : WorldState) (parts : List PartState) (of : IsOfParts w parts) wher
       split (inl out) = inl out.1.1
       split (inr done) = inr (moved done.1)
 
-  step_moves : (step : Step) (answer : Option Refusal) (w' : WorldState) → IsShaped w → IsShaped w' → IsCredited w' → Next step (turn w answer w') → (w' ≡ w) ⊎ StaysJoined w' (mover step)
+  step_moves : (step : Step) (answer : Option Refusal) (w' : WorldState) → IsShaped w → IsShaped w' → IsCredited w' → Next step (turn w answer w') → (w' ≡ w) ⊎ StaysJoined w' (worker_of_step step)
   step_moves (Expand i) answer w' old shaped credited next = by_cases (Expand i) answer w' i (expands i w' shaped) next
   step_moves (Settle i) answer w' old shaped credited next = by_cases (Settle i) answer w' i (settles i w' shaped) next
   step_moves (Send i j) answer w' old shaped credited next = by_cases (Send i j) answer w' i (send_step i j w' shaped) next
@@ -485,7 +474,7 @@ pub steps_of_parts : StepsAreOfParts
 steps_of_parts step it parts next shaped credited of =
     ⊎_elim
     (λ (same : it.after ≡ it.before). inl same)
-    (λ (moved : StaysJoined it.before parts of it.after (mover step)). inr (mover step, moved.0, moved.1, moved.2, moved.3, moved.4))
+    (λ (moved : StaysJoined it.before parts of it.after (worker_of_step step)). inr (worker_of_step step, moved.0, moved.1, moved.2, moved.3, moved.4))
     (step_moves it.before parts of step it.answer it.after shaped (steps_shaped step it next shaped) (steps_credited step it next credited) next)
 
 -- the world is that of some parts

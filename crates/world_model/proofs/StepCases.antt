@@ -59,7 +59,7 @@ pub record Settles (worker worker' : WorkerState) : Type 0 where
   pub held : worker.held ≡ front ++ last ∷ []
   pub is : worker' ≡ record worker { held = front; known = relaxation worker.known last }
 
-pub record Sends (to : ℕ) (x y : AtLane) : Type 0 where
+pub record SendsOnLane (to : ℕ) (x y : AtLane) : Type 0 where
   pub some : ¬ (packet_for x.worker to ≡ [])
   pub rich : ¬ (x.worker.purse < 2)
   pub room : ¬ (length x.lane ≡ LANE_LIMIT)
@@ -116,7 +116,7 @@ settle_cases it (inl out) = inl (_, out.1)
 settle_cases it (inr (some, (front, last, held, inl new))) = inr (new.0, record { front = front; last = last; held = held; is = new.1 })
 settle_cases it (inr (some, (front, last, held, inr out))) = inl (_, out.1)
 
-pub send_cases : (to : ℕ) (it : Turn AtLane Refusal) → SendStep to it → Cases it (Sends to it.before it.after)
+pub send_cases : (to : ℕ) (it : Turn AtLane Refusal) → SendStep to it → Cases it (SendsOnLane to it.before it.after)
 send_cases to it (inl out) = inl (_, out.1)
 send_cases to it (inr (some, inl out)) = inl (_, out.1)
 send_cases to it (inr (some, inr (rich, inl out))) = inl (_, out.1)
@@ -186,7 +186,7 @@ pub record LaneChange (i : ℕ) (ends : Ends) (Change : AtLane → AtLane → Ty
 abbrev pub Accepts : Step → WorldState → WorldState → Type 0
 Accepts (Expand i) w w' = OwnChange i (Expands (role_of w i)) w w'
 Accepts (Settle i) w w' = OwnChange i Settles w w'
-Accepts (Send i j) w w' = LaneChange i (lane_ends i j) (Sends j) w w'
+Accepts (Send i j) w w' = LaneChange i (lane_ends i j) (SendsOnLane j) w w'
 Accepts (Deliver i j) w w' = LaneChange i (lane_ends j i) Delivers w w'
 Accepts (Draw i) w w' = BookChange i Draws w w'
 Accepts (Announce i) w w' = BookChange i (Announces (role_of w i)) w w'
@@ -224,7 +224,7 @@ on_lane i ends LaneStep Change cases it (inr (there, (worker, lane, new, at, at_
 pub next_cases : (step : Step) (it : Turn WorldState Refusal) → Next step it → Cases it (Accepts step it.before it.after)
 next_cases (Expand i) it next = by_worker i (ExpandStep (role_of it.before i)) (Expands (role_of it.before i)) (expand_cases (role_of it.before i)) it next
 next_cases (Settle i) it next = by_worker i SettleStep Settles settle_cases it next
-next_cases (Send i j) it next = on_lane i (lane_ends i j) (SendStep j) (Sends j) (send_cases j) it next
+next_cases (Send i j) it next = on_lane i (lane_ends i j) (SendStep j) (SendsOnLane j) (send_cases j) it next
 next_cases (Deliver i j) it next = on_lane i (lane_ends j i) DeliverStep Delivers deliver_cases it next
 next_cases (Draw i) it next = on_book i DrawStep Draws draw_cases it next
 next_cases (Announce i) it next = on_book i (AnnounceStep (role_of it.before i)) (Announces (role_of it.before i)) (announce_cases (role_of it.before i)) it next

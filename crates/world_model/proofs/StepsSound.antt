@@ -24,12 +24,13 @@ use Rattle.world_model.specs.declared.steps.Step.TheVariants.{Expand, Settle, Se
 use Rattle.world_model.specs.BookSteps.{AtBook}
 use Rattle.world_model.specs.Turns.{Turn}
 use Rattle.world_model.specs.WorkerSteps.{AtLane}
+use Rattle.world_model.specs.ThreadParts.{HasUnsent}
 use Rattle.world_model.proofs.ChangeLemmas.{entry, same_search_key, with_insert, knows_owned, moved_task_board, changed, worker_there, lane_there, get_set_other, at_set, none_in_empty, head_in, later_in, cons_cases, is_empty}
 use Rattle.world_model.proofs.ShapeKept.{slots, some_unsent}
 use Rattle.world_model.proofs.ChangeLemmas as change
 use Rattle.world_model.proofs.SoundLemmas.{Remembers, predecessor_kept, sound_kept, moved_remembers, moved_sound, settle_sound}
 use Rattle.world_model.proofs.SoundLemmas as settling
-use Rattle.world_model.proofs.ExpandLemmas.{Among, IsUnsent, HasSlots, all_known, all_lower, all_there, all_unsent, all_put, all_back, all_held, offered, offers_all, offered_board}
+use Rattle.world_model.proofs.ExpandLemmas.{Among, HasSlots, all_known, all_lower, all_there, all_unsent, all_put, all_back, all_held, offered, offers_all, offered_board}
 use Rattle.world_model.proofs.StepCases.{IsSame, IsKeptByBook, draw_same, announce_same, grant_same, rest_same, halt_same, Cases, BookChange, Accepts, next_cases}
 
 -- ---- an expansion keeps a world sound
@@ -167,7 +168,7 @@ module _ (w : WorldState) (shaped : IsShaped w) (sound : IsSound w) (i : ℕ) (w
   offer_before to offer (inr (inl has)) =
       ⊎_elim
       (λ (h : (has.0 ≡ i) × (has.1 ≡ done)).
-      ⊎_elim (λ (old : IsUnsent marked to offer). inl (inr (inl (has.0, worker, old.0, ap (slice_get w.workers) h.0 ∙ is, old.1, old.2)))) (λ new. inr new)
+      ⊎_elim (λ (old : HasUnsent marked to offer). inl (inr (inl (has.0, worker, old.0, ap (slice_get w.workers) h.0 ∙ is, old.1, old.2)))) (λ new. inr new)
       (all_back (role_of w i) offers marked lists to offer (has.2, ap (λ (x : WorkerState). slice_get x.unsent to) (sym h.1) ∙ has.4, has.5)))
       (λ (h : (has.0 ≢ i) × IsWorker w has.0 has.1). inl (inr (inl (has.0, has.1, has.2, h.1, has.4, has.5))))
       (worker_after has.0 has.1 has.3)

@@ -43,7 +43,7 @@ led_back rule b via before cost b' c board board' moves back =
     ap (λ (x : BoardModel × ℕ). x.0) same
 
 -- nothing is forgotten: what is known is known as cheaply, and what is unsent still is
-pub record Remembers (old new : WorkerState) : Type 0 where
+pub record WorkerRemembers (old new : WorkerState) : Type 0 where
   pub lower : (b : BoardModel) (known : Known) → KnowsAs old b known → KnowsAtMost new b known.cost
   pub unsent : (to : ℕ) (item : Item) → HasUnsent old to item → HasUnsent new to item
 
@@ -53,7 +53,7 @@ pub record IsFounded (role : Role) (part : PartState) (b : BoardModel) (known : 
   pub closed : known.expanded ≡ true → (b ≢ role.task.goal) × ((m : Move) (b' : BoardModel) (c : ℕ) → Moves role.task.rule b m b' c → IsSeenTo role part b' (known.cost + c) ⊎ LeadsBack part b known m)
 
 -- what is new is well founded, and what is held no longer is known where it is the worker's own
-pub record AddsWell (n : ℕ) (role : Role) (part : PartState) (worker : WorkerState) : Type 0 where
+pub record WorkerAddsWell (n : ℕ) (role : Role) (part : PartState) (worker : WorkerState) : Type 0 where
   pub shaped : IsShapedWorker n role (record worker { held = [] })
   pub few_held : length worker.held ≤ PACKET_LIMIT
   pub known : (b : BoardModel) (known : Known) → IsTaskBoard role.task b → KnowsAs worker b known → KnowsAs part.worker b known ⊎ IsFounded role (part_with_worker part worker) b known
@@ -62,7 +62,7 @@ pub record AddsWell (n : ℕ) (role : Role) (part : PartState) (worker : WorkerS
   pub settled : (item : Item) → Contains part.worker.held item → IsItemFor role.task role.owner role.me item → KnowsAtMost worker item.board item.cost ⊎ Contains worker.held item
   pub resting : worker.purse ≡ 0 → IsIdle role.task worker (limit_of worker.best) worker.best
 
-module _ (role : Role) (part : PartState) (worker : WorkerState) (remembers : Remembers part.worker worker) where
+module _ (role : Role) (part : PartState) (worker : WorkerState) (remembers : WorkerRemembers part.worker worker) where
   at_most_kept : (b : BoardModel) (cost : ℕ) → KnowsAtMost part.worker b cost → KnowsAtMost worker b cost
   at_most_kept b cost has = let now = remembers.lower b has.0 has.1 in (now.0, now.1, omega (arith, now.2, has.2))
 
@@ -83,7 +83,7 @@ module _ (role : Role) (part : PartState) (worker : WorkerState) (remembers : Re
   origin_kept b cost via (inl made) = inl (made_kept b cost via made)
   origin_kept b cost via (inr came) = inr came
 
-  module _ (n : ℕ) (is : IsRole n role) (keeps : Keeps n role part) (adds : AddsWell n role part worker) where
+  module _ (n : ℕ) (is : IsRole n role) (keeps : Keeps n role part) (adds : WorkerAddsWell n role part worker) where
     made : (to : ℕ) (item : Item) → HasUnsent worker to item ⊎ WasSent part to item → IsMade role worker item.board item.cost item.via
     made to item (inl unsent) = ⊎_elim (λ old. made_kept item.board item.cost item.via (keeps.made to item (inl old))) (λ new. new) (adds.items to item unsent)
     made to item (inr sent) = made_kept item.board item.cost item.via (keeps.made to item (inr sent))
@@ -176,7 +176,7 @@ module _ (n : ℕ) (role : Role) (part : PartState) (is : IsRole n role) (keeps 
       let end = all_lower role offers marked (search_key x) mid.0 mid.1 in
       (end.0, end.1, omega (arith, mid.2, end.2))
 
-  remembers : Remembers part.worker done
+  remembers : WorkerRemembers part.worker done
   unfolding done offers marked
   remembers = record { lower = lower; unsent = λ to item has. all_unsent role offers marked lists to item has }
 
