@@ -2,14 +2,13 @@
 use Rattle.std.proofs.Common.{◌≡◌, ◌≢◌, inl, inr, ℕ, suc, ◌<◌, ◌≤◌, Bool, true, false, List, [], ◌∷◌, length, take, get_or, Result, Ok, Err, Some, refl, sym, ap, subst, ◌∙◌, ⊎_elim, arith, length-take, if◌then◌else◌, codes}
 use Rattle.std.specs.Prelude.{◌&&◌, ◌↔◌, All, IfOk, IsOk, IsErrOf, map, nat_lt, slice_get}
 use Rattle.std.specs.List.{list_all}
-use Rattle.std.specs.Char.{IsAsciiDigit, is_ascii_digit}
+use Rattle.std.specs.Char.{is_ascii_digit}
 use Rattle.std.specs.Str.Parse.{digits_value}
 use Rattle.std.proofs.lemmas.Bool.{cases_lt, lt-ltb}
 use Rattle.std.proofs.lemmas.Bool.Decides.{nat_tests}
-use Rattle.std.proofs.lemmas.List.{take_all, length-map, get_or-take, get_or-map}
+use Rattle.std.proofs.lemmas.List.{take_all, length-map, get_or-take}
 use Rattle.std.proofs.lemmas.List.Elements.{All-get_or, All-from_get_or, All-head, All-tail}
-use Rattle.std.proofs.lemmas.List.Sums.{AllPass-from_list_all, list_all-from_AllPass}
-use Rattle.std.proofs.lemmas.Option.{slice_get_within, get_or_from_slice_get, slice_get-get_or}
+use Rattle.std.proofs.lemmas.Option.{slice_get-get_or}
 use Rattle.board.specs.Shapes.{ShapeModel, cell_count}
 use Rattle.board.specs.Weights.{WeightsModel, AreWeights, listed_rule}
 use Rattle.board.specs.Faults.{IsFirstZero, IsFirstWeightsFault}
@@ -17,9 +16,9 @@ use Rattle.board.specs.declared.faults.WeightsFault.{WeightsFault}
 use Rattle.board.specs.declared.faults.WeightsFault.TheVariants.{WrongCount, WeightOutOfRange}
 use Rattle.board.proofs.WeightLemmas.{rule_has_no_fault, one_fault}
 use Rattle.batch_lines.specs.Words.{SpellsDecimal, SpellEach}
-use Rattle.batch_lines.specs.Texts.{comma_words, SpellsWeight, SaysWeights, SaysCosts}
-use Rattle.batch_lines.specs.Texts.{weight_number}
+use Rattle.batch_lines.specs.Texts.{comma_words, SpellsWeight, SaysWeights, SaysCosts, weight_number}
 use Rattle.batch_lines.specs.GroupFaults.{IsFirstWeightWord, IsFirstWeightFault, IsFirstCostsFault}
+use Rattle.batch_lines.proofs.NumberLemmas.{digits_of, all_digits, number_at}
 
 -- ---- the number of a word
 
@@ -42,12 +41,9 @@ spells_number word some =
     let parts = parts_of_some (list_all is_ascii_digit word) (nat_lt (digits_value 10 word) 256) (digits_value 10 word) some in
     record {
       some = λ none. let e = ap weight_number none in absurd (omega (arith, e, some));
-      digits = λ k d l. digit (get_or word k d) (AllPass-from_list_all is_ascii_digit word parts.0 k d l);
+      digits = digits_of word parts.0;
       value = parts.1;
     }
-  where
-    digit : (b : ℕ) → is_ascii_digit b ≡ true → IsAsciiDigit b
-    digit b e = grind arith
 
 spells_weight : (word : List ℕ) → 1 ≤ weight_number word → SpellsWeight word
 spells_weight word some = record {
@@ -60,12 +56,9 @@ spells_weight word some = record {
 -- the number of a word that spells one below 256
 number_spelled : (word : List ℕ) (n : ℕ) → SpellsDecimal word n → n < 256 → weight_number word ≡ n
 number_spelled word n spells small =
-    let all : list_all is_ascii_digit word ≡ true = list_all-from_AllPass is_ascii_digit word (λ k d l. tested (get_or word k d) (spells.digits k d l)) in
+    let all = all_digits word spells.digits in
     let below : nat_lt (digits_value 10 word) 256 ≡ true = lt-ltb (digits_value 10 word) 256 (omega (arith, spells.value, small)) in
     rw (all, below) spells.value
-  where
-    tested : (b : ℕ) → IsAsciiDigit b → is_ascii_digit b ≡ true
-    tested b within = grind arith
 
 weight_some : (word : List ℕ) → SpellsWeight word → 1 ≤ weight_number word
 weight_some word spells = omega (arith, spells.low, spells.high, number_spelled word spells.weight spells.spelled (omega (arith, spells.high)))
@@ -74,11 +67,6 @@ no_weight : (word : List ℕ) → ¬ SpellsWeight word → weight_number word �
 no_weight word none = ⊎_elim (λ (some : 0 < weight_number word). absurd (none (spells_weight word (omega arith)))) (λ (zero : weight_number word ≤ 0). omega arith) (cases_lt 0 (weight_number word))
 
 -- ---- the first fault of words
-
-number_at : (words : List (List ℕ)) (k : ℕ) (word : List ℕ) → slice_get words k ≡ Some word → get_or (map weight_number words) k 0 ≡ weight_number word
-number_at words k word at =
-    let within = slice_get_within words k word at in
-    get_or-map weight_number words k word 0 within ∙ ap weight_number (get_or_from_slice_get words k word word at)
 
 first_word : (grid : ShapeModel) (words : List (List ℕ)) (place : ℕ) → IsFirstZero grid (map weight_number words) place → IsFirstWeightWord grid words place
 first_word grid words place first =
@@ -89,7 +77,7 @@ first_word grid words place first =
       within = omega (arith, size, first.within);
       before = λ k word early at.
           let low = All-get_or (λ weight. 1 ≤ weight) (take place (map weight_number words)) k 0 (omega (arith, taken, first.within, early)) first.before in
-          spells_weight word (omega (arith, low, get_or-take place (map weight_number words) k 0 early, number_at words k word at));
+          spells_weight word (omega (arith, low, get_or-take place (map weight_number words) k 0 early, number_at weight_number words k word at));
     }
 
 first_zero : (grid : ShapeModel) (words : List (List ℕ)) (place : ℕ) (word : List ℕ) → IsFirstWeightWord grid words place → slice_get words place ≡ Some word → ¬ SpellsWeight word → IsFirstZero grid (map weight_number words) place
@@ -102,8 +90,8 @@ first_zero grid words place word first at none =
           let early : k < place = omega (arith, inside, length-take place (map weight_number words)) in
           let here = slice_get-get_or words k [] (omega (arith, early, first.within)) in
           let some = weight_some (get_or words k []) (first.before k (get_or words k []) early here) in
-          omega (arith, some, get_or-take place (map weight_number words) k 0 early, number_at words k (get_or words k []) here));
-      zero = number_at words place word at ∙ no_weight word none;
+          omega (arith, some, get_or-take place (map weight_number words) k 0 early, number_at weight_number words k (get_or words k []) here));
+      zero = number_at weight_number words place word at ∙ no_weight word none;
     }
 
 -- the numbers and their words have the same first fault
@@ -113,7 +101,7 @@ same_fault grid words (WeightOutOfRange place) = (
   (λ first.
       let there = first_word grid words place first in
       let at = slice_get-get_or words place [] there.within in
-      (get_or words place [], there, at, λ spells. omega (arith, weight_some (get_or words place []) spells, number_at words place (get_or words place []) at, first.zero))),
+      (get_or words place [], there, at, λ spells. omega (arith, weight_some (get_or words place []) spells, number_at weight_number words place (get_or words place []) at, first.zero))),
   (λ fault. first_zero grid words place fault.0 fault.1 fault.2 fault.3),
 )
 
@@ -186,20 +174,19 @@ said_rule grid text rule said =
     let high : All (λ n. n < 256) said.weights = All-from_get_or (λ n. n < 256) said.weights 0 (λ k inside. let low = sound.high (suc k) (omega (arith, inside, count)) in omega (arith, low)) in
     said.listed ∙ ap (listed_rule grid) (sym (weights_are (comma_words text) said.weights said.spelled high))
 
--- a text without a digit at its beginning says no weights
-unit_no_weights : (grid : ShapeModel) (text : List ℕ) (rule : WeightsModel) → text ≡ codes "unit" → SaysWeights grid text rule → ⊥
-unit_no_weights grid text rule is said = no_digits said.weights (subst (λ (t : List ℕ). SpellEach (comma_words t) said.weights) is said.spelled)
+-- words the first of which spells no number say no weights
+no_weights : (grid : ShapeModel) (text word : List ℕ) (others : List (List ℕ)) (rule : WeightsModel) → comma_words text ≡ word ∷ others → ((n : ℕ) → ¬ SpellsDecimal word n) → SaysWeights grid text rule → ⊥
+no_weights grid text word others rule words none said = no_number said.weights (subst (λ (ws : List (List ℕ)). SpellEach ws said.weights) words said.spelled)
   where
-    no_digits : (ns : List ℕ) → SpellEach (comma_words (codes "unit")) ns → ⊥
-    no_digits [] spelled = absurd spelled
-    no_digits (n ∷ ns) spelled = let digit = spelled.0.digits 0 0 (omega arith) in omega (arith, digit)
+    no_number : (ns : List ℕ) → SpellEach (word ∷ others) ns → ⊥
+    no_number [] spelled = absurd spelled
+    no_number (n ∷ ns) spelled = none n spelled.0
+
+unit_no_weights : (grid : ShapeModel) (text : List ℕ) (rule : WeightsModel) → text ≡ codes "unit" → SaysWeights grid text rule → ⊥
+unit_no_weights grid text rule is = no_weights grid text (codes "unit") [] rule (ap comma_words is) (λ n spells. let digit = spells.digits 0 0 (omega arith) in omega (arith, digit))
 
 face_no_weights : (grid : ShapeModel) (text : List ℕ) (rule : WeightsModel) → text ≡ codes "face" → SaysWeights grid text rule → ⊥
-face_no_weights grid text rule is said = no_digits said.weights (subst (λ (t : List ℕ). SpellEach (comma_words t) said.weights) is said.spelled)
-  where
-    no_digits : (ns : List ℕ) → SpellEach (comma_words (codes "face")) ns → ⊥
-    no_digits [] spelled = absurd spelled
-    no_digits (n ∷ ns) spelled = let digit = spelled.0.digits 0 0 (omega arith) in omega (arith, digit)
+face_no_weights grid text rule is = no_weights grid text (codes "face") [] rule (ap comma_words is) (λ n spells. let digit = spells.digits 0 0 (omega arith) in omega (arith, digit))
 
 unit_no_face : (text : List ℕ) → text ≡ codes "unit" → text ≡ codes "face" → ⊥
 unit_no_face text unit face = let e = ap (λ (t : List ℕ). get_or t 0 0) (sym unit ∙ face) in omega (arith, e)

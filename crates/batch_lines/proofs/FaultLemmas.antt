@@ -2,17 +2,17 @@
 use Rattle.std.proofs.Common.{◌≡◌, ◌≢◌, ℕ, suc, ◌-◌, ◌<◌, ◌≤◌, min, Bool, true, false, List, [], ◌∷◌, ◌++◌, length, get_or, take, refl, sym, ap, ◌∙◌, arith, length-append, append_assoc, if◌then◌else◌, subst, ⊎_elim, length-take}
 use Rattle.std.specs.Prelude.{◌&&◌, map, nat_lt, ◌↔◌, All, IsErrOf, IsUtf8, Ok, Err, slice_get, Some}
 use Rattle.std.specs.List.{list_all}
-use Rattle.std.specs.Char.{IsAsciiDigit, is_ascii_digit}
+use Rattle.std.specs.Char.{is_ascii_digit}
 use Rattle.std.specs.Str.Parse.{digits_value}
 use Rattle.std.proofs.lemmas.Bool.{lt-ltb, cases_lt}
-use Rattle.std.proofs.lemmas.List.{append-nil, take_all, length-map, get_or-take, get_or-map, get_or_default}
+use Rattle.std.proofs.lemmas.List.{append-nil, take_all, length-map, get_or-take, get_or_default}
 use Rattle.std.proofs.Math.Seq.{take-nil}
-use Rattle.std.proofs.lemmas.List.Sums.{AllPass-from_list_all, list_all-from_AllPass}
 use Rattle.batch_lines.specs.TileNumbers.{tile_number}
 use Rattle.batch_lines.specs.Words.{words_of, id_of, tile_words, SpellsDecimal, SpellEach, IsEntry, IsFirstWord, IsFirstWordFault, IsFirstEntryFault}
 use Rattle.batch_lines.proofs.WordLemmas.{words_none, first_and_others}
+use Rattle.batch_lines.proofs.NumberLemmas.{digits_of, all_digits, number_at}
 use Rattle.std.proofs.lemmas.List.Elements.{All-head, All-tail, All-weaker}
-use Rattle.std.proofs.lemmas.Option.{slice_get_within, get_or_from_slice_get, slice_get-get_or}
+use Rattle.std.proofs.lemmas.Option.{slice_get_within, slice_get-get_or}
 use Rattle.board.specs.Shapes.{ShapeModel, cell_count}
 use Rattle.board.specs.Boards.{BoardModel, IsBoard}
 use Rattle.board.specs.Faults.{IsFirstTilesPlace, IsFirstTilesFault}
@@ -65,12 +65,9 @@ Spells-from_number word small =
     let parts = digits_of_small (nat_lt 0 (length word)) (list_all is_ascii_digit word) (digits_value 10 word) small in
     record {
       some = λ none. let e = ap (λ (w : List ℕ). nat_lt 0 (length w)) none in absurd (let some = parts.0 in cc);
-      digits = λ k d l. digit (get_or word k d) (AllPass-from_list_all is_ascii_digit word parts.1 k d l);
+      digits = digits_of word parts.1;
       value = parts.2;
     }
-  where
-    digit : (b : ℕ) → is_ascii_digit b ≡ true → IsAsciiDigit b
-    digit b e = grind arith
 
 length_some : (word : List ℕ) → word ≢ [] → 0 < length word
 length_some [] some = absurd (some refl)
@@ -80,22 +77,14 @@ length_some (b ∷ bs) some = omega arith
 pub number-from_Spells : (word : List ℕ) (n : ℕ) → SpellsDecimal word n → tile_number word ≡ min 255 n
 number-from_Spells word n spells =
     let some : nat_lt 0 (length word) ≡ true = lt-ltb 0 (length word) (length_some word spells.some) in
-    let all : list_all is_ascii_digit word ≡ true = list_all-from_AllPass is_ascii_digit word (λ k d l. tested (get_or word k d) (spells.digits k d l)) in
+    let all = all_digits word spells.digits in
     rw (some, all) (ap (min 255) spells.value)
-  where
-    tested : (b : ℕ) → IsAsciiDigit b → is_ascii_digit b ≡ true
-    tested b within = grind arith
-
-number_at : (words : List (List ℕ)) (k : ℕ) (word : List ℕ) → slice_get words k ≡ Some word → get_or (map tile_number words) k 0 ≡ tile_number word
-number_at words k word at =
-    let within = slice_get_within words k word at in
-    get_or-map tile_number words k word 0 within ∙ ap tile_number (get_or_from_slice_get words k word word at)
 
 -- a number before a place
 number_before : (words : List (List ℕ)) (place k : ℕ) (d : ℕ) (word : List ℕ) → k < place → slice_get words k ≡ Some word → get_or (take place (map tile_number words)) k d ≡ tile_number word
 number_before words place k d word before at =
     let within : k < length (map tile_number words) = omega (arith, slice_get_within words k word at, length-map words tile_number) in
-    get_or-take place (map tile_number words) k d before ∙ get_or_default (map tile_number words) k d 0 within ∙ number_at words k word at
+    get_or-take place (map tile_number words) k d before ∙ get_or_default (map tile_number words) k d 0 within ∙ number_at tile_number words k word at
 
 -- where no number before a place is faulty, no word before it is
 first_word : (grid : ShapeModel) (words : List (List ℕ)) (place : ℕ) → cell_count grid ≤ 25 → IsFirstTilesPlace grid (map tile_number words) place → IsFirstWord grid words place
@@ -152,10 +141,10 @@ out_of_range grid words place few = (
   (λ fault.
       let first = first_word grid words place few fault.0 in
       let at = slice_get-get_or words place [] first.within in
-      let is = number_at words place (get_or words place []) at in
+      let is = number_at tile_number words place (get_or words place []) at in
       (get_or words place [], first, at, λ n spells. omega (arith, number-from_Spells (get_or words place []) n spells, is, fault.1))),
   (λ fault.
-      let is = number_at words place fault.0 fault.2 in
+      let is = number_at tile_number words place fault.0 fault.2 in
       let high : cell_count grid ≤ tile_number fault.0 = ⊎_elim (λ (small : tile_number fault.0 < 255). fault.3 (tile_number fault.0) (Spells-from_number fault.0 small)) (λ (big : 255 ≤ tile_number fault.0). omega arith) (cases_lt (tile_number fault.0) 255) in
       (first_place grid words place few fault.1, subst (λ (n : ℕ). cell_count grid ≤ n) (sym is) high)),
 )
@@ -165,7 +154,7 @@ repeated grid words place few = (
   (λ fault.
       let first = first_word grid words place few fault.0 in
       let at = slice_get-get_or words place [] first.within in
-      let is = number_at words place (get_or words place []) at in
+      let is = number_at tile_number words place (get_or words place []) at in
       let low : tile_number (get_or words place []) < cell_count grid = subst (λ (n : ℕ). n < cell_count grid) is fault.1 in
       let k : ℕ = fault.2.0 in
       let before : k < place = omega (arith, fault.2.1, length-take place (map tile_number words)) in
@@ -175,7 +164,7 @@ repeated grid words place few = (
       (get_or words place [], tile_number (get_or words place []), k, earlier.0, first, at, Spells-from_number (get_or words place []) (omega arith), low, before, earlier.1, subst (λ (n : ℕ). SpellsDecimal earlier.0 n) same (Spells-from_number earlier.0 earlier_low))),
   (λ fault.
       let first = first_place grid words place few fault.4 in
-      let is = number_at words place fault.0 fault.5 ∙ number-from_Spells fault.0 fault.1 fault.6 in
+      let is = number_at tile_number words place fault.0 fault.5 ∙ number-from_Spells fault.0 fault.1 fault.6 in
       let earlier = number_before words place fault.2 (get_or (map tile_number words) place 0) fault.3 fault.8 fault.9 ∙ number-from_Spells fault.3 fault.1 fault.10 in
       (first, omega (arith, is, fault.7), (fault.2, omega (arith, fault.8, first.within, length-take place (map tile_number words)), earlier ∙ sym is))),
 )

@@ -1,5 +1,6 @@
 pub mod LineLemmas
 pub mod WordLemmas
+pub mod NumberLemmas
 pub mod FaultLemmas
 pub mod LawLemmas
 pub mod TextLemmas

@@ -165,7 +165,7 @@ one_number : (word : List ℕ) (n m : ℕ) → SpellsDecimal word n → SpellsDe
 one_number word n m first second = sym second.value ∙ first.value
 
 -- words spell one list of numbers
-same_numbers : (words : List (List ℕ)) (ns ms : List ℕ) → SpellEach words ns → SpellEach words ms → ms ≡ ns
+pub same_numbers : (words : List (List ℕ)) (ns ms : List ℕ) → SpellEach words ns → SpellEach words ms → ms ≡ ns
 same_numbers [] [] [] first second = refl
 same_numbers [] [] (m ∷ ms) first second = absurd second
 same_numbers [] (n ∷ ns) ms first second = absurd first
@@ -195,28 +195,29 @@ one_goal grid text goal goal' said said' =
     let sides : goal'.grid ≡ goal.grid = said'.sides ∙ sym said.sides in
     λ i. record { grid = sides i; tiles = tiles i }
 
-pub no_goal_fault : (grid : ShapeModel) (text : List ℕ) (goal : BoardModel) (fault : TilesFault) → IsGoalOf grid text goal → IsFirstWordFault grid (comma_words text) fault → ⊥
-no_goal_fault grid text goal fault said first = by_fault fault first
+-- words that spell the tiles of a board have no fault
+pub no_word_fault : (grid : ShapeModel) (words : List (List ℕ)) (b : BoardModel) → SpellEach words b.tiles → IsBoard b → b.grid ≡ grid → (fault : TilesFault) → ¬ IsFirstWordFault grid words fault
+no_word_fault grid words b spells board sides = by_fault
   where
-    words : List (List ℕ)
-    words = comma_words text
+    many : length words ≡ length b.tiles
+    many = as_many words b.tiles spells
 
-    many : length words ≡ length goal.tiles
-    many = as_many words goal.tiles said.spelled
+    cells : cell_count b.grid ≡ cell_count grid
+    cells = ap cell_count sides
 
-    cells : cell_count goal.grid ≡ cell_count grid
-    cells = ap cell_count said.sides
-
-    within : (place : ℕ) (word : List ℕ) → slice_get words place ≡ Some word → place < length goal.tiles
+    within : (place : ℕ) (word : List ℕ) → slice_get words place ≡ Some word → place < length b.tiles
     within place word at = let inside = slice_get_within words place word at in omega (arith, inside, many)
 
-    by_fault : (fault : TilesFault) → IsFirstWordFault grid words fault → ⊥
-    by_fault WrongCount first = first (many ∙ said.board.one_each ∙ cells)
+    by_fault : (fault : TilesFault) → ¬ IsFirstWordFault grid words fault
+    by_fault WrongCount first = first (many ∙ board.one_each ∙ cells)
     by_fault (TileOutOfRange place) (word, before, at, high) =
-        let low = said.board.in_range place 0 (within place word at) in
-        let past = high (get_or goal.tiles place 0) (spelled_at words goal.tiles place word said.spelled at) in
+        let low = board.in_range place 0 (within place word at) in
+        let past = high (get_or b.tiles place 0) (spelled_at words b.tiles place word spells at) in
         omega (arith, low, past, cells)
     by_fault (TileRepeated place) (word, n, k, earlier, before, at, spelled, low, sooner, at_k, spelled_k) =
-        let here : n ≡ get_or goal.tiles place 0 = one_number word (get_or goal.tiles place 0) n (spelled_at words goal.tiles place word said.spelled at) spelled in
-        let there : n ≡ get_or goal.tiles k 0 = one_number earlier (get_or goal.tiles k 0) n (spelled_at words goal.tiles k earlier said.spelled at_k) spelled_k in
-        said.board.different k place 0 sooner (within place word at) (sym there ∙ here)
+        let here : n ≡ get_or b.tiles place 0 = one_number word (get_or b.tiles place 0) n (spelled_at words b.tiles place word spells at) spelled in
+        let there : n ≡ get_or b.tiles k 0 = one_number earlier (get_or b.tiles k 0) n (spelled_at words b.tiles k earlier spells at_k) spelled_k in
+        board.different k place 0 sooner (within place word at) (sym there ∙ here)
+
+pub no_goal_fault : (grid : ShapeModel) (text : List ℕ) (goal : BoardModel) (fault : TilesFault) → IsGoalOf grid text goal → IsFirstWordFault grid (comma_words text) fault → ⊥
+no_goal_fault grid text goal fault said first = no_word_fault grid (comma_words text) goal said.spelled said.board said.sides fault first

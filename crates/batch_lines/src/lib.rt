@@ -38,4 +38,4 @@ pub use group_faults::GroupsFault;
 pub use groups::read_groups;
 pub use lines::{INPUT_LIMIT, LINE_LIMIT, Line, LineKind, LineReader};
 pub use weights::read_costs;
-pub use words::{Entry, EntryFault, cut_word, read_entry, tile_number};
+pub use words::{Entry, EntryFault, cut_word, read_entry};

@@ -4,11 +4,8 @@ ghost use Rattle.std.specs.Prelude.{◌≡◌, map, take};
 ghost use Rattle.batch_lines.specs.TileNumbers.{tile_number};
 ghost use Rattle.batch_lines.specs.Texts.{comma_words};
 
-use crate::words::tile_number;
+use crate::words::{WORDS_READ, tile_number};
 use arrayvec::ArrayVec;
-
-/// The most words that are read: one more than the cells of any board, so that a surplus is seen.
-pub(crate) const WORDS_READ: usize = 26;
 
 // The numbers that the first words between commas say. What is behind them is not read.
 pub(crate) fn numbers_in(text: &str) -> ArrayVec<u8, 26>

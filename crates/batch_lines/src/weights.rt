@@ -2,11 +2,10 @@
 
 ghost use Rattle.std.specs.Prelude.{◌≡◌, ◌↔◌, IfOk, IsErrOf, map, take};
 ghost use Rattle.board.specs.declared.faults.WeightsFault.{WeightsFault};
-ghost use Rattle.batch_lines.specs.Texts.{comma_words, SaysCosts};
-ghost use Rattle.batch_lines.specs.Texts.{weight_number};
+ghost use Rattle.batch_lines.specs.Texts.{comma_words, SaysCosts, weight_number};
 ghost use Rattle.batch_lines.specs.GroupFaults.{IsFirstCostsFault};
 
-use crate::option_words::WORDS_READ;
+use crate::words::{WORDS_READ, digits_number};
 use arrayvec::ArrayVec;
 use board::{Shape, Weights, WeightsFault};
 
@@ -45,13 +44,9 @@ fn weights_in(text: &str) -> ArrayVec<u8, 26>
 fn weight_number(word: &[u8]) -> u8
     ensures { result ≡ weight_number word.now }
 {
-    let mut number: u32 = 0;
-    'digits: for byte in word {
-        if !byte.is_ascii_digit() {
-            return 0;
-        }
-        number = (number * 10 + (*byte - b'0') as u32).min(256);
-    }
+    let Some(number) = digits_number(word) else {
+        return 0;
+    };
     if number == 256 {
         return 0;
     }

@@ -1,7 +1,10 @@
 //! Words of a line: its id, and the board that they spell.
 
-ghost use Rattle.std.specs.Prelude.{◌≡◌, ◌≤◌, ◌↔◌, IfOk, IsErrOf, length, map, not, take};
-ghost use Rattle.std.specs.List.{position_or_len};
+ghost use Rattle.std.specs.Prelude.{◌≡◌, ◌≤◌, ◌↔◌, false, true, IfOk, IfSome, IsErrOf, None};
+ghost use Rattle.std.specs.Prelude.{length, map, min, not, take};
+ghost use Rattle.std.specs.Char.{is_ascii_digit};
+ghost use Rattle.std.specs.List.{list_all, position_or_len};
+ghost use Rattle.std.specs.Str.Parse.{digits_value};
 ghost use Rattle.batch_lines.specs.Lines.{is_blank};
 ghost use Rattle.batch_lines.specs.TileNumbers.{tile_number};
 ghost use Rattle.batch_lines.specs.Words.{words_of, id_of, tile_words, IsEntry, IsFirstEntryFault};
@@ -51,7 +54,7 @@ pub fn read_entry(shape: Shape, line: &[u8]) -> Result<Entry<'_>, EntryFault>
     let Ok(text) = std::str::from_utf8(line) else {
         return Err(EntryFault::NoText);
     };
-    prove!(shape.cells() < TILES_READ);
+    prove!(shape.cells() < WORDS_READ);
     let (id, rest) = cut_word(text);
     let numbers = tile_numbers(rest);
     match Board::from_tiles(shape, numbers.as_slice()) {
@@ -60,9 +63,8 @@ pub fn read_entry(shape: Shape, line: &[u8]) -> Result<Entry<'_>, EntryFault>
     }
 }
 
-// The most words that are read as tiles: one more than the cells of any board, so that a surplus is
-// seen.
-const TILES_READ: usize = 26;
+/// The most words that are read: one more than the cells of any board, so that a surplus is seen.
+pub(crate) const WORDS_READ: usize = 26;
 
 // The numbers that the first words of a text say.
 fn tile_numbers(text: &str) -> ArrayVec<u8, 26>
@@ -70,7 +72,7 @@ fn tile_numbers(text: &str) -> ArrayVec<u8, 26>
 {
     let mut numbers = ArrayVec::new();
     let mut rest = text;
-    'words: while numbers.len() < TILES_READ {
+    'words: while numbers.len() < WORDS_READ {
         let (word, behind) = cut_word(rest);
         if word.is_empty() {
             return numbers;
@@ -81,21 +83,34 @@ fn tile_numbers(text: &str) -> ArrayVec<u8, 26>
     numbers
 }
 
-/// The number that a word of digits says, and 255 for a greater number and for any other word.
-pub fn tile_number(word: &[u8]) -> u8
+// The number that a word of digits says, and 255 for a greater number and for any other word.
+pub(crate) fn tile_number(word: &[u8]) -> u8
     ensures { result ≡ tile_number word.now }
 {
     if word.is_empty() {
         return 255;
     }
+    let Some(number) = digits_number(word) else {
+        return 255;
+    };
+    number.min(255) as u8
+}
+
+// The number that a word of digits says, and 256 for a greater number; an empty word says 0. None
+// for any other word.
+pub(crate) fn digits_number(word: &[u8]) -> Option<u32>
+    ensures number { IfSome result (λ number. (list_all is_ascii_digit word.now ≡ true)
+        × (number ≡ min 256 (digits_value 10 word.now))) }
+    ensures none { result ≡ None → list_all is_ascii_digit word.now ≡ false }
+{
     let mut number: u32 = 0;
     'digits: for byte in word {
         if !byte.is_ascii_digit() {
-            return 255;
+            return None;
         }
-        number = (number * 10 + (*byte - b'0') as u32).min(255);
+        number = (number * 10 + (*byte - b'0') as u32).min(256);
     }
-    number as u8
+    Some(number)
 }
 
 /// The first word of a text, empty where there is none, and the text behind it. Spaces and tabs

@@ -3,11 +3,11 @@ use Rattle.std.specs.Char.{digit_value, is_ascii_digit}
 use Rattle.std.specs.Str.Parse.{digits_value}
 use Rattle.std.proofs.lemmas.Int.Digits.{digits_value_more}
 use Rattle.std.proofs.lemmas.List.Folds.{list_all_more}
-use Rattle.batch_lines.proofs.words.tile_number.Goals as goal
+use Rattle.batch_lines.proofs.words.digits_number.Goals as goal
 
--- one more digit of a number that stops at 255
-number_more : (word : List ℕ) (i v : ℕ) → i < length word → 48 ≤ get_or word i 0 → get_or word i 0 ≤ 57 → v ≡ min 255 (digits_value 10 (take i word)) →
-    min (v * 10 + (get_or word i 0 - 48)) 255 ≡ min 255 (digits_value 10 (take (i + 1) word))
+-- one more digit of a number that stops at 256
+number_more : (word : List ℕ) (i v : ℕ) → i < length word → 48 ≤ get_or word i 0 → get_or word i 0 ≤ 57 → v ≡ min 256 (digits_value 10 (take i word)) →
+    min (v * 10 + (get_or word i 0 - 48)) 256 ≡ min 256 (digits_value 10 (take (i + 1) word))
 number_more word i v within low high e =
     let value : digit_value (get_or word i 0) ≡ get_or word i 0 - 48 = grind arith in
     omega (arith, digits_value_more 10 word i within, value, e)
