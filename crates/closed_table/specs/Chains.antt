@@ -102,6 +102,10 @@ pub record HasPlacesBelow (bucket : Bucket) (n : ℕ) : Type 0 where
   pub count : bucket.count ≤ 7
   pub places : (k : ℕ) → k < bucket.count → slice_index bucket.places k < n
 
+-- an entry of a bucket holds nothing
+abbrev pub IsClearAt : Bucket → ℕ → Type 0
+IsClearAt bucket k = (slice_index bucket.hashes k ≡ 0) × (slice_index bucket.places k ≡ 0)
+
 -- no slot has this key
 abbrev pub HasNoKey : Index → ℕ → Type 0
 HasNoKey index key = (i : ℕ) → i < index.len → key_at index.slots i ≢ key

@@ -10,7 +10,7 @@ ghost use Rattle.closed_table.specs.Chains.{IsIndexInOrder, IsIndexGrown, IsPlac
 ghost use Rattle.closed_table.specs.Chains.{HasNoKey};
 ghost use Rattle.closed_table.specs.Chains.{key_at, key_in, chain_count, row_of_slot};
 ghost use Rattle.closed_table.specs.Chains.{rows_of_slots, new_row};
-ghost use Rattle.closed_table.specs.Chains.{bucket_part, stays, moves_on, AreClear};
+ghost use Rattle.closed_table.specs.Chains.{bucket_part, stays, moves_on, AreClear, IsClearAt};
 ghost use Rattle.closed_table.specs.Chains.{IsRelinked, MayBeRelinked};
 ghost use Rattle.closed_table.specs.declared.index.TheConstants.{FIRST_CHAINS, LOAD};
 
@@ -279,24 +279,22 @@ pub(crate) fn read_ahead(index: &Index, key: u128) -> u32
     bucket.hashes[0] ^ bucket.places[ENTRIES - 1]
 }
 
-// Puts a slot into a bucket with free entries, if it belongs there. Neither case takes a guess of
-// the processor.
+// Puts a slot into a bucket with free entries, of which the next one is clear, if it belongs there.
+// Neither case takes a guess of the processor: what is written where it does not is known.
 fn put_if(bucket: &mut Bucket, place: usize, hash: u32, belongs: bool)
     requires free { bucket.old.count < 7 }
-    requires small { place < 2 ^ 32 - 1 }
+    requires clear { IsClearAt bucket.old bucket.old.count }
+    requires small { place < 2 ^ 32 }
     ensures { bucket.new ≡ if belongs then bucket_with bucket.old place hash else bucket.old }
 {
     let count = bucket.count as usize;
-    bucket.hashes[count] = if belongs { hash } else { bucket.hashes[count] };
-    bucket.places[count] = if belongs {
-        place as u32
-    } else {
-        bucket.places[count]
-    };
+    bucket.hashes[count] = if belongs { hash } else { 0 };
+    bucket.places[count] = if belongs { place as u32 } else { 0 };
     bucket.count += belongs as u16;
 }
 
-// Divides the slots that a bucket has itself.
+// Divides the slots that a bucket has itself. All entries are gone through, also those where no
+// slot is: the processor often guesses wrong where the last slot is.
 fn divided(bucket: &Bucket, bits: u32, chains: usize, from: usize) -> Halves
     requires bits { AreBitsFor bits chains }
     requires few { chains < 2 ^ 32 }
@@ -308,12 +306,14 @@ fn divided(bucket: &Bucket, bits: u32, chains: usize, from: usize) -> Halves
         stay: NO_BUCKET,
         go: NO_BUCKET,
     };
-    'entries: for k in 0..bucket.count as usize {
+    let count = bucket.count as usize;
+    'entries: for k in 0..ENTRIES {
         let hash = bucket.hashes[k];
         let place = bucket.places[k] as usize;
+        let is_there = k < count;
         let stays = chain_of(hash, bits, chains + 1) == from;
-        put_if(&mut halves.stay, place, hash, stays);
-        put_if(&mut halves.go, place, hash, !stays);
+        put_if(&mut halves.stay, place, hash, is_there & stays);
+        put_if(&mut halves.go, place, hash, is_there & !stays);
     }
     halves
 }
