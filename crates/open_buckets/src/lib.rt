@@ -3,6 +3,7 @@
 //! - Contracts see an `Open` as an `OpenModel`: at each f the entries in order and the room for
 //!   more. In memory: a bucket for each f up to `GREATEST_F`, and a cursor at or below the least f.
 //! - Only `reserve` takes memory; `put` requires a place, and an entry taken out leaves its place.
+//!   `clear` takes out all, so that the list can be used again with the memory that it has.
 //! - `take_lowest` takes the last entry of the least f below a limit; `peek_lowest` only looks, so
 //!   that a step chooses before it grows. `last_at` looks at one f alone.
 //! - `sort_at` sorts one f by cost. A bucket that grows gets 32 places, or just those asked for if

@@ -125,6 +125,18 @@ impl<K: Copy> Open<K> {
         }
     }
 
+    /// Takes out all entries. Their places stay for others, and no place is lost.
+    pub fn clear(&mut self)
+        ensures entries { (h : ℕ) → entries_at self.new h ≡ [] }
+        ensures places { (h : ℕ) → places_at self.old h ≤ places_at self.new h }
+    {
+        'buckets: while self.cursor < self.buckets.len() {
+            self.buckets[self.cursor].clear();
+            self.cursor += 1;
+        }
+        self.cursor = 0;
+    }
+
     /// Puts the entries at an f in order of their costs, so that one of the greatest cost is taken
     /// there next.
     pub fn sort_at(&mut self, f: u32)
