@@ -110,11 +110,11 @@ IsClearAt bucket k = (slice_index bucket.hashes k ≡ 0) × (slice_index bucket.
 abbrev pub HasNoKey : Index → ℕ → Type 0
 HasNoKey index key = (i : ℕ) → i < index.len → key_at index.slots i ≢ key
 
--- each bucket is that of a chain with no slot
+-- each bucket of the first 127 chains is that of a chain with no slot; that of a later chain is written when the chain is added
 abbrev pub AreClear : List Bucket → Type 0
-AreClear buckets = (chain : ℕ) → slice_index_or buckets chain no_bucket ≡ no_bucket
+AreClear buckets = (chain : ℕ) → chain < 127 → slice_index_or buckets chain no_bucket ≡ no_bucket
 
--- the index is in order, and has buckets for the chains that it has with one slot more, which are clear before the first
+-- the index is in order, and has buckets for the chains that it has with one slot more; the first ones are clear before the first slot
 pub record HasNextChains (index : Index) : Type 0 where
   pub indexed : IsIndexInOrder index
   pub room : chain_count (index.len + 1) ≤ length index.buckets

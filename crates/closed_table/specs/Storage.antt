@@ -11,7 +11,7 @@ abbrev pub table_of : Inside → ClosedModel
 table_of s = record { keys = map (λ row. row.0) (rows_of_slots s.index.slots s.index.len); known = fin.from_entries {R = nat_cmp} (rows_of_slots s.index.slots s.index.len); room = s.room }
 
 -- the index is in order, there is a place for each slot that was promised, and a link can tell each; while there is
--- no slot, each bucket is that of a chain with none
+-- no slot, the buckets of the first chains are those of chains with none
 pub record IsSoundTable (s : Inside) : Type 0 where
   pub indexed : IsIndexed s.index.slots s.index.links s.index.buckets s.index.len (chain_count s.index.len) s.index.bits
   pub slots : s.index.len + s.room ≤ length s.index.slots

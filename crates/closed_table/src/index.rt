@@ -102,8 +102,8 @@ pub(crate) fn grow_to<T: Copy>(
     ensures ok { OnOk result (len + count < length pages.new) }
     ensures few { length pages.new ≤ 2 ^ 32 }
     ensures kept { (more : List T) × (pages.new ≡ pages.old ++ more) }
-    ensures alike { ((k : ℕ) → slice_index_or pages.old k item ≡ item)
-        → (k : ℕ) → slice_index_or pages.new k item ≡ item }
+    ensures alike { (k : ℕ) → slice_index_or pages.old k item ≡ item
+        → slice_index_or pages.new k item ≡ item }
 {
     'pages: while pages.len() - len <= count {
         pages.grow(alloc, item)?;
@@ -416,8 +416,18 @@ fn add_chain(index: &mut Index)
     index.buckets.set(chains, halves.go);
 }
 
+// Clears the buckets of the first chains, of which no slot is left. Others are written when their
+// chains are added.
+pub(crate) fn clear_first_buckets(buckets: &mut Pages<Bucket>)
+    ensures clear { AreClear buckets.new }
+{
+    'chains: for chain in 0..buckets.len().min(FIRST_CHAINS) {
+        buckets.set(chain, NO_BUCKET);
+    }
+}
+
 // Makes the first chains, where there is no slot. No bucket is written: each is that of a chain
-// with no slot since its page was made.
+// with no slot since its page was made, or since it was cleared.
 fn make_first_chains(index: &mut Index)
     requires none { index.old.len ≡ 0 }
     requires room { 127 ≤ length index.old.buckets }

@@ -4,6 +4,8 @@
 //!   and room. Keys are any `u128`.
 //! - `relax` answers `New`, `Lower` or `Kept`, and the key's place. Only `reserve` takes memory;
 //!   after a refusal the table is as it was.
+//! - `clear` keeps the pages. It writes the buckets of the first chains alone: any other one is
+//!   written when its chain is added.
 //! - In memory: slots in order of arrival, links and buckets, all in `Pages`.
 //! - A chain has a bucket of one cache line: hashes and places of its first seven slots, a list for
 //!   the others, and a filter with a bit for each hash in it.

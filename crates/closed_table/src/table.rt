@@ -145,6 +145,17 @@ impl Closed {
         Ok(())
     }
 
+    /// Forgets all boards, and the places that were promised. The pages stay, so that the next
+    /// boards need no memory until there are more of them.
+    pub fn clear(&mut self)
+        ensures { self.new ≡ empty_table }
+    {
+        index::clear_first_buckets(&mut self.index.buckets);
+        self.index.len = 0;
+        self.index.bits = 0;
+        self.room = 0;
+    }
+
     /// Reads ahead what `relax` will read of a key, so that its reads of memory overlap with
     /// others. It changes nothing.
     #[inline(always)]

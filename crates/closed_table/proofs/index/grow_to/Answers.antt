@@ -18,5 +18,5 @@ pages-preserved g c =
     record {
       within = omega arith;
       kept = (c.pages.invariant.kept.0 ++ replicate PAGE_LENGTH c.args.item, c.in_ok-grow.ensures.ok ∙ ap (λ xs. xs ++ replicate PAGE_LENGTH c.args.item) c.pages.invariant.kept.1 ∙ append_assoc c.args.pages.now c.pages.invariant.kept.0 (replicate PAGE_LENGTH c.args.item));
-      alike = λ before k. ap (λ xs. get_or xs k c.args.item) c.in_ok-grow.ensures.ok ∙ alike_more c.pages.pages c.args.item PAGE_LENGTH (c.pages.invariant.alike before) k;
+      alike = λ k before. ap (λ xs. get_or xs k c.args.item) c.in_ok-grow.ensures.ok ∙ alike_more c.pages.pages c.args.item PAGE_LENGTH k (c.pages.invariant.alike k before);
     }

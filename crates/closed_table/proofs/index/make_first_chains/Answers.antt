@@ -6,7 +6,7 @@ pub returns-clause-grown : goal.returns-clause-grown
 returns-clause-grown c =
     let s = c.args.index.now in
     record {
-      indexed = first_chains s.slots s.links s.buckets s.len c.requires.none c.requires.room (λ k lt. c.requires.clear k);
+      indexed = first_chains s.slots s.links s.buckets s.len c.requires.none c.requires.room c.requires.clear;
       len = refl;
       slots = refl;
       links = refl;

@@ -40,7 +40,7 @@ invariant_of-self-in_err-grow_to-3 c =
       links = let le = is.links in let more = longer s.links c.grow_to-2.new.pages c.grow_to-2.ensures.kept in omega arith;
       buckets = let le = is.buckets in let more = longer s.buckets c.grow_to-3.new.pages c.grow_to-3.ensures.kept in omega arith;
       few = is.few;
-      clear = λ none. c.grow_to-3.ensures.alike (is.clear none);
+      clear = λ none chain lt. c.grow_to-3.ensures.alike chain (is.clear none chain lt);
     }
 
 pub invariant_of-self-2 : goal.invariant_of-self-2
@@ -58,5 +58,5 @@ invariant_of-self-2 c =
       links = let more = links in omega arith;
       buckets = let more = buckets in let e = chains in omega arith;
       few = let more = slots in let few = most in omega arith;
-      clear = λ none. c.grow_to-3.ensures.alike (is.clear none);
+      clear = λ none chain lt. c.grow_to-3.ensures.alike chain (is.clear none chain lt);
     }
