@@ -2,6 +2,7 @@
 use Rattle.std.proofs.Common.{◌≡◌, ◌≢◌, ◌⊎◌, ℕ, zero, suc, ◌+◌, ◌<◌, ◌≤◌, Bool, true, false, List, [], ◌∷◌, ◌++◌, length, Option, None, Some, refl, sym, ap, ◌∙◌, subst, inl, inr, ⊎_elim, arith}
 use Rattle.std.specs.Prelude.{Contains, IfSome, slice_get, nat_lt, if◌then◌else◌}
 use Rattle.std.specs.FinMap as map
+use Rattle.std.specs.Ordering.{nat_cmp}
 use Rattle.std.proofs.lemmas.Bool.{cases_eq, cases_lt, cases_Bool, cond-true, cond-false}
 use Rattle.std.proofs.lemmas.List.{length-append, nil_from_length}
 use Rattle.std.proofs.lemmas.List.Elements.{Contains-append_left, Contains-push, Contains-push_cases}
@@ -14,7 +15,7 @@ use Rattle.closed_table.specs.declared.table.Relaxed.TheVariants.{New, Lower, Ke
 use Rattle.world_model.specs.declared.parts.Known.{Known}
 use Rattle.world_model.specs.Knowledge.{Knowledge, is_news}
 use Rattle.world_model.proofs.ChangeLemmas.{with_insert, get_inserted, same_known}
-use Rattle.search_lists.specs.Lists.{SearchListsModel, both, AreKnown, HasEntriesOf, HasMoreRoom}
+use Rattle.search_lists.specs.Lists.{SearchListsModel, empty_lists, both, AreKnown, HasEntriesOf, HasMoreRoom}
 use Rattle.open_buckets.specs.declared.open.TheConstants.{GREATEST_F}
 use Rattle.search_lists.specs.Orders.{Guide, IsOpenKey, IsInOrder, NoneBelow, IsFirst, IsWaiting, IsLeastOpen, AddsUp}
 use Rattle.search_lists.specs.declared.lists.Next.{Next}
@@ -363,3 +364,16 @@ order_with_room guide old new more order = record {
       let found = order.adds f place cost (subst (λ (xs : List (ℕ × ℕ)). Contains xs (place, cost)) (more.entries f) has) in
       (found.0, ap (λ (keys : List ℕ). slice_get keys place) more.keys ∙ found.1, found.2, found.3, found.4);
 }
+
+-- lists that know no board are in order
+abbrev no_boards : Knowledge
+no_boards = map.empty
+
+unknown : (key : ℕ) (known : Known) → map.get no_boards key ≡ Some known → ⊥
+unknown key known at = let none : ◌≡◌ {A = Option Known} None (Some known) = sym (map.get-empty nat_cmp key) ∙ at in cc
+
+pub empty_order : (guide : Guide) (lists : SearchListsModel) → HasMoreRoom empty_lists lists → IsInOrder guide lists
+empty_order guide lists more = order_with_room guide empty_lists lists more (record {
+  waits = λ key known at. absurd (unknown key known at.knows);
+  adds = λ f place cost has. let inside : has.0 < 0 = has.1 in absurd (omega (arith, inside));
+})

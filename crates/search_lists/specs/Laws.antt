@@ -1,7 +1,7 @@
 -- The laws of lists that have more room.
 use Rattle.std.specs.Prelude.{ℕ, ◌<◌, ◌⊎◌}
 use Rattle.open_buckets.specs.OpenLists.{places_at, IsNextEntry}
-use Rattle.search_lists.specs.Lists.{SearchListsModel, HasMoreRoom}
+use Rattle.search_lists.specs.Lists.{SearchListsModel, empty_lists, HasMoreRoom}
 use Rattle.search_lists.specs.Orders.{Guide, IsInOrder}
 
 -- lists that stay as they are have lost nothing
@@ -19,6 +19,10 @@ LostPlacesAreNoRoom = (old new : SearchListsModel) (f : ℕ) → (new.closed.roo
 -- what was in order is in order where there is more room
 abbrev pub MoreRoomLeavesTheOrder : Type 0
 MoreRoomLeavesTheOrder = (guide : Guide) (old new : SearchListsModel) → HasMoreRoom old new → IsInOrder guide old → IsInOrder guide new
+
+-- lists that know no board are in order, whatever room they have
+abbrev pub EmptyListsAreInOrder : Type 0
+EmptyListsAreInOrder = (guide : Guide) (lists : SearchListsModel) → HasMoreRoom empty_lists lists → IsInOrder guide lists
 
 -- more room leaves the next entry the next one
 abbrev pub MoreRoomLeavesTheNext : Type 0

@@ -2,7 +2,7 @@
 
 ghost use Rattle.search_lists.specs.Laws.{SameListsLoseNothing, RoomIsMadeTwice};
 ghost use Rattle.search_lists.specs.Laws.{LostPlacesAreNoRoom, MoreRoomLeavesTheOrder};
-ghost use Rattle.search_lists.specs.Laws.{MoreRoomLeavesTheNext};
+ghost use Rattle.search_lists.specs.Laws.{MoreRoomLeavesTheNext, EmptyListsAreInOrder};
 
 /// Lists that stay as they are have lost nothing.
 pub fn same_lists_lose_nothing()
@@ -23,6 +23,12 @@ pub fn lost_places_are_no_room()
 #[tactic(auto, using(crate::proofs::OrderLemmas::order_with_room))]
 pub fn more_room_leaves_the_order()
     ensures { MoreRoomLeavesTheOrder }
+{}
+
+/// Lists that know no board are in order, whatever room they have: new ones, and cleared ones.
+#[tactic(auto, using(crate::proofs::OrderLemmas::empty_order))]
+pub fn empty_lists_are_in_order()
+    ensures { EmptyListsAreInOrder }
 {}
 
 /// More room leaves the next entry the next one.

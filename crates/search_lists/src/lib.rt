@@ -11,6 +11,7 @@
 //! - Where many boards are known, up to `BATCH` entries of one f take turns. `upcoming` answers
 //!   those that come next, and no clause says which these are.
 //! - `reserve_boards` asks for 64 boards at once, and only if that is refused for those needed.
+//! - `clear` forgets all and keeps the memory, so that one search after another needs little more.
 //! - `has_met_goal` is a hint; no clause speaks of it.
 //! - Start with `specs/Orders.antt`, then `src/lists.rt`.
 #![tactic(auto)]

@@ -67,13 +67,20 @@ struct Batch {
     left: usize,
 }
 
+// No entries that are taken together.
+const NO_BATCH: Batch = Batch {
+    f: 0,
+    place: 0,
+    left: 0,
+};
+
 /// The known boards, and which of them wait to be expanded, by cost plus sum.
 #[derive(Drop)]
 pub struct SearchLists {
     closed: Closed,
     open: Open<u32>,
-    // The greatest f whose entries were put in order of cost since the start or since `order_anew`,
-    // and 0 where there is none. The entries at f 0 all cost 0, so they are in order.
+    // The greatest f whose entries were put in order of cost since the start, or since `order_anew`
+    // or `clear`, and 0 where there is none. The entries at f 0 all cost 0, so they are in order.
     ordered: u32,
     // Whether a goal was met, which is worth a look then.
     goal_met: bool,
@@ -103,12 +110,20 @@ impl SearchLists {
             open: Open::new(alloc),
             ordered: 0,
             goal_met: false,
-            batch: Batch {
-                f: 0,
-                place: 0,
-                left: 0,
-            },
+            batch: NO_BATCH,
         }
+    }
+
+    /// Forgets all boards, and the places that were promised for them. The memory stays, so that
+    /// another search needs no more until it is larger.
+    pub fn clear(&mut self)
+        ensures { HasMoreRoom empty_lists self.new }
+    {
+        self.closed.clear();
+        self.open.clear();
+        self.ordered = 0;
+        self.goal_met = false;
+        self.batch = NO_BATCH;
     }
 
     /// How many boards are known.
@@ -195,7 +210,8 @@ impl SearchLists {
         relax(&mut self.closed, &mut self.open, goal, met);
     }
 
-    /// Whether a goal was ever met by `relax`. No more than a hint: no contract speaks of it.
+    /// Whether a goal was met by `relax` since the start or since `clear`. No more than a hint: no
+    /// contract speaks of it.
     pub fn has_met_goal(&self) -> bool {
         self.goal_met
     }
