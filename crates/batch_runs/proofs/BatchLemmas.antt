@@ -23,7 +23,7 @@ use Rattle.batch_runs.specs.Headline.{IsTrueRun, TellsTheTruth, BatchOutputsTell
 use Rattle.batch_runs.specs.declared.faults.LinesFault.{LinesFault}
 use Rattle.batch_runs.specs.declared.faults.LinesFault.TheVariants.{Read, Write, Memory}
 use Rattle.batch_runs.specs.Laws.{BatchLinesAreLostToFailures, OutputsAreAnswers, FailedWritesAreTold, WriteFaultsAreFailures, ReadFaultsAreFailures, FiguresBelongToReports, CountsAreOfReports, status_in, FoldedSetupsAskAlike}
-use Rattle.batch_runs.proofs.TruthLemmas.{truth, settled, report_first, kind_over, kind_asks, no_refusal, data_or, letters_in}
+use Rattle.batch_runs.proofs.TruthLemmas.{truth, settled, report_first, kind_over, kind_asks, no_refusal, text_or}
 use Rattle.std.specs.Prelude.{not, count_by, unwrap_or, option_and_then}
 use Rattle.std.specs.Str.{bytes_eq}
 use Rattle.std.proofs.lemmas.List.Sums.{sum_by-cons}
@@ -38,7 +38,7 @@ use Rattle.serde_json.specs.Written.{compact_text}
 use Rattle.batch_runs.specs.Reports.{outcome_data, refused_data}
 use Rattle.batch_runs.specs.ReportReadings.{IsReport, IsSmall, HasSmallNumbers, Reads, HasStatus}
 use Rattle.batch_runs.specs.ReportReadings.IsReport.{of_outcome, of_line}
-use Rattle.batch_runs.proofs.ReadLemmas.{report_read}
+use Rattle.batch_runs.proofs.ReadLemmas.{report_read, data_or, text_at, own_id}
 use Rattle.serde_json.specs.Find.{get}
 use Rattle.batch_lines.specs.Lines.{is_passed_over, line_kind_of}
 use Rattle.batch_lines.specs.Words.{IsEntry}
@@ -286,17 +286,13 @@ CountsKnown-more (Some xs) (Some ys) (Some zs) x y z p q = p ∙ q
 
 -- ---- the lines of a beginning
 
-abbrev line_or : Option (List ℕ) → List ℕ
-line_or None = []
-line_or (Some line) = line
-
 later_same : (b : ℕ) (lines : List (List ℕ)) (k : ℕ) → slice_get (onto_first b lines) (suc k) ≡ slice_get lines (suc k)
 later_same b [] k = refl
 later_same b (line ∷ lines) k = refl
 
 first_onto : (b : ℕ) (lines : List (List ℕ)) (line : List ℕ) → slice_get lines 0 ≡ Some line → slice_get (onto_first b lines) 0 ≡ Some (b ∷ line)
 first_onto b [] line e = absurd (cc)
-first_onto b (l ∷ lines) line e = ap (λ (o : Option (List ℕ)). Some (b ∷ line_or o)) e
+first_onto b (l ∷ lines) line e = ap (λ (o : Option (List ℕ)). Some (b ∷ text_or o)) e
 
 some_first : (lines : List (List ℕ)) → 0 < length lines → (line : List ℕ) × (slice_get lines 0 ≡ Some line)
 some_first [] some = absurd (omega arith)
@@ -427,16 +423,7 @@ not_over rules Within bytes asks is = entry_not_over rules bytes passed_over is 
 
 -- what is read of a line is what was written there
 read_there : (d e : Data) (line : List ℕ) → IsReport d → Some (compact_text d) ≡ Some line → Reads line e → d ≡ e
-read_there d e line is here reads = ap (data_or) (sym (report_read d is) ∙ ap (λ (o : Option (List ℕ)). read (line_or o)) here ∙ reads)
-
--- the id that a report names
-abbrev id_in : Data → List ℕ
-id_in d = letters_in (get (codes "id") d)
-
-own_id : (id : List ℕ) (ending : Ending) → id_in (outcome_data id ending) ≡ id
-own_id id (Optimal cost plan) = refl
-own_id id (Unsolvable why) = refl
-own_id id (Bounded bound best cause) = refl
+read_there d e line is here reads = ap data_or (sym (report_read d is) ∙ ap (λ (o : Option (List ℕ)). read (text_or o)) here ∙ reads)
 
 module _ (rules : Rules) (handed : List ℕ → BoardModel → Solved → Type 0) where
   -- the k-th line that asks has figures with this id, beside an ending that has this report
@@ -464,7 +451,7 @@ module _ (rules : Rules) (handed : List ℕ → BoardModel → Solved → Type 0
       at zero id l ending here reads =
           let fits = small_answer rules (line_kind_of line) (without_return line) name outcome is in
           let e = read_there (outcome_data name outcome) (outcome_data id ending) l (of_outcome name outcome fits) here reads in
-          let named : name ≡ id = sym (own_id name outcome) ∙ ap id_in e ∙ own_id id ending in
+          let named : name ≡ id = sym (own_id name outcome) ∙ ap (text_at (codes "id")) e ∙ own_id id ending in
           (n, line, b, solved, refl, subst (λ (i : List ℕ). IsEntry rules.grid (without_return line) i b) named entry, subst (λ (i : List ℕ). handed i b solved) named given, ap (outcome_data id) same_ending ∙ ap (λ (i : List ℕ). outcome_data i outcome) (sym named) ∙ e)
       at (suc k) id l ending here reads = others k id l ending here reads
 

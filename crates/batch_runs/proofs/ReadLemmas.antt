@@ -88,32 +88,39 @@ readable d (of_certificate code) = refused_certificate_readable code
 pub report_read : (d : Data) → IsReport d → read (compact_text d) ≡ Some d
 report_read d is = read_text d (readable d is)
 
-abbrev data_or : Data → Option Data → Data
-data_or d None = d
-data_or d (Some e) = e
+abbrev pub data_or : Option Data → Data
+data_or None = null
+data_or (Some d) = d
 
 pub one_thing : (d e : Data) → IsReport d → IsReport e → report_text d ≡ report_text e → d ≡ e
 one_thing d e first second same =
     let texts : compact_text d ≡ compact_text e = append_cancel_right (compact_text d) (compact_text e) (10 ∷ []) same in
-    ap (data_or d) (sym (report_read d first) ∙ ap read texts ∙ report_read e second)
+    ap data_or (sym (report_read d first) ∙ ap read texts ∙ report_read e second)
 
 -- ---- what a report was made of
 
+-- the text of a value
+abbrev pub text_in : Option Data → List ℕ
+text_in o = unwrap_or (option_and_then as_str o) []
+
+-- the number of a value
+abbrev pub number_in : Option Data → ℕ
+number_in o = unwrap_or (option_and_then as_u64 (option_and_then as_number o)) 0
+
+abbrev pub first_letter : Option Data → ℕ
+first_letter o = get_or (text_in o) 0 0
+
 -- the text under a key
-abbrev text_at : List ℕ → Data → List ℕ
-text_at key d = unwrap_or (option_and_then as_str (get key d)) []
+abbrev pub text_at : List ℕ → Data → List ℕ
+text_at key d = text_in (get key d)
 
 -- the number under a key
 abbrev number_at : List ℕ → Data → ℕ
-number_at key d = unwrap_or (option_and_then as_u64 (option_and_then as_number (get key d))) 0
-
--- the value under a key
-abbrev value_at : List ℕ → Data → Data
-value_at key d = unwrap_or (get key d) null
+number_at key d = number_in (get key d)
 
 -- ---- plans
 
-abbrev plan_of : List ℕ → List Move
+abbrev pub plan_of : List ℕ → List Move
 plan_of [] = []
 plan_of (letter ∷ letters) = unwrap_or (move_of_letter letter) U ∷ plan_of letters
 
@@ -123,11 +130,11 @@ own_move L = refl
 own_move R = refl
 own_move D = refl
 
-own_plan : (plan : List Move) → plan_of (letters_of plan) ≡ plan
+pub own_plan : (plan : List Move) → plan_of (letters_of plan) ≡ plan
 own_plan [] = refl
 own_plan (m ∷ plan) = (λ i. own_move m i ∷ own_plan plan i)
 
-abbrev best_read : Data → Option (ℕ × List Move)
+abbrev pub best_read : Data → Option (ℕ × List Move)
 best_read null = None
 best_read (boolean b) = None
 best_read (number n) = None
@@ -135,14 +142,14 @@ best_read (string s) = None
 best_read (array ds) = None
 best_read (object ms) = Some (number_at (codes "cost") (object ms), plan_of (text_at (codes "plan") (object ms)))
 
-own_best : (best : Option (ℕ × List Move)) → best_read (best_data best) ≡ best
+pub own_best : (best : Option (ℕ × List Move)) → best_read (best_data best) ≡ best
 own_best None = refl
 own_best (Some best) = ap (λ (plan : List Move). Some (best.0, plan)) (own_plan best.1)
 
 -- ---- outcomes
 
-abbrev first_letter : Data → ℕ
-first_letter d = get_or (text_at (codes "status") d) 0 0
+abbrev status_letter : Data → ℕ
+status_letter d = first_letter (get (codes "status") d)
 
 same_why : (why why' : Why) → why_word why ≡ why_word why' → why ≡ why'
 same_why Parity Parity e = refl
@@ -155,18 +162,18 @@ say_same id id' (Optimal cost plan) (Optimal cost' plan') e =
     let costs : cost ≡ cost' = ap (number_at (codes "cost")) e in
     let plans : plan.items ≡ plan'.items = sym (own_plan plan.items) ∙ ap (λ (d : Data). plan_of (text_at (codes "plan") d)) e ∙ own_plan plan'.items in
     subst (λ (c : ℕ). SaySame (Optimal cost plan) (Optimal c plan')) costs (optimal cost plan plan' plans)
-say_same id id' (Optimal cost plan) (Unsolvable why') e = let z = ap first_letter e in absurd (omega arith)
-say_same id id' (Optimal cost plan) (Bounded bound' best' cause') e = let z = ap first_letter e in absurd (omega arith)
-say_same id id' (Unsolvable why) (Optimal cost' plan') e = let z = ap first_letter e in absurd (omega arith)
+say_same id id' (Optimal cost plan) (Unsolvable why') e = let z = ap status_letter e in absurd (omega arith)
+say_same id id' (Optimal cost plan) (Bounded bound' best' cause') e = let z = ap status_letter e in absurd (omega arith)
+say_same id id' (Unsolvable why) (Optimal cost' plan') e = let z = ap status_letter e in absurd (omega arith)
 say_same id id' (Unsolvable why) (Unsolvable why') e =
     let words : why_word why ≡ why_word why' = ap (text_at (codes "why")) e in
     subst (λ (w : Why). SaySame (Unsolvable why) (Unsolvable w)) (same_why why why' words) (unsolvable why)
-say_same id id' (Unsolvable why) (Bounded bound' best' cause') e = let z = ap first_letter e in absurd (omega arith)
-say_same id id' (Bounded bound best cause) (Optimal cost' plan') e = let z = ap first_letter e in absurd (omega arith)
-say_same id id' (Bounded bound best cause) (Unsolvable why') e = let z = ap first_letter e in absurd (omega arith)
+say_same id id' (Unsolvable why) (Bounded bound' best' cause') e = let z = ap status_letter e in absurd (omega arith)
+say_same id id' (Bounded bound best cause) (Optimal cost' plan') e = let z = ap status_letter e in absurd (omega arith)
+say_same id id' (Bounded bound best cause) (Unsolvable why') e = let z = ap status_letter e in absurd (omega arith)
 say_same id id' (Bounded bound best cause) (Bounded bound' best' cause') e =
     let bounds : bound ≡ bound' = ap (number_at (codes "bound")) e in
-    let bests : best_of best ≡ best_of best' = sym (own_best (best_of best)) ∙ ap (λ (d : Data). best_read (value_at (codes "best") d)) e ∙ own_best (best_of best') in
+    let bests : best_of best ≡ best_of best' = sym (own_best (best_of best)) ∙ ap (λ (d : Data). best_read (data_or (get (codes "best") d))) e ∙ own_best (best_of best') in
     let causes : cause_word cause ≡ cause_word cause' = ap (text_at (codes "cause")) e in
     subst (λ (c : ℕ). SaySame (Bounded bound best cause) (Bounded c best' cause')) bounds (bounded bound best best' cause cause' bests causes)
 
@@ -177,13 +184,14 @@ told_alike id outcome outcome' (unsolvable why) = refl
 told_alike id outcome outcome' (bounded bound best best' cause cause' bests causes) = λ i.
     object (member (codes "best") (best_data (bests i)) (member (codes "bound") (number (unsigned bound)) (member (codes "cause") (string (causes i)) (member (codes "id") (string id) (member (codes "status") (string (codes "bounded")) no_members)))))
 
+-- the id under its key is that of the report
+pub own_id : (id : List ℕ) (outcome : Ending) → text_at (codes "id") (outcome_data id outcome) ≡ id
+own_id id (Optimal cost plan) = refl
+own_id id (Unsolvable why) = refl
+own_id id (Bounded bound best cause) = refl
+
 same_id : (id id' : List ℕ) (outcome outcome' : Ending) → outcome_data id outcome ≡ outcome_data id' outcome' → id ≡ id'
 same_id id id' outcome outcome' e = sym (own_id id outcome) ∙ ap (text_at (codes "id")) e ∙ own_id id' outcome'
-  where
-    own_id : (id : List ℕ) (outcome : Ending) → text_at (codes "id") (outcome_data id outcome) ≡ id
-    own_id id (Optimal cost plan) = refl
-    own_id id (Unsolvable why) = refl
-    own_id id (Bounded bound best cause) = refl
 
 -- ---- the laws
 

@@ -1,20 +1,17 @@
 -- What is read in a line of the output is what was reported of the line that it answers.
 use Rattle.std.proofs.Common.{◌≡◌, ◌≢◌, ℕ, zero, suc, ◌<◌, List, [], ◌∷◌, Option, None, Some, length, refl, sym, ap, ◌∙◌, subst, inl, inr, arith, slice_get, ◌+◌, ◌^◌, ◌≤◌, ◌++◌, cond, append_assoc, codes, get_or, map, not, ◌==◌, ◌&&◌, Vec, Global, ⊎_elim}
-use Rattle.std.specs.List.{All, AllPairs, AllByRecursion}
+use Rattle.std.specs.List.{AllByRecursion}
 use Rattle.std.proofs.lemmas.Bool.{true≢false, ne_eqb, eqb-true, cases_lt}
-use Rattle.std.proofs.lemmas.Option.{slice_get_within, get_or_from_slice_get}
-use Rattle.std.specs.Prelude.{Bool, true, false, nat_lt, ⊤, ◌⊎◌, unwrap_or, option_and_then}
-use Rattle.serde_json.specs.Data.{Data, null, boolean, number, string, array, object}
-use Rattle.serde_json.specs.Find.{get, as_number, as_u64}
+use Rattle.std.proofs.lemmas.Option.{slice_get_within}
+use Rattle.std.specs.Prelude.{Bool, true, false, nat_lt, ⊤, ◌⊎◌}
+use Rattle.serde_json.specs.Data.{Data, number}
 use Rattle.serde_json.specs.Read.{read}
 use Rattle.serde_json.specs.Written.{compact_text}
-use Rattle.board.specs.Shapes.{ShapeModel, cell_count}
-use Rattle.board.specs.Boards.{BoardModel, IsBoard}
+use Rattle.board.specs.Shapes.{ShapeModel}
+use Rattle.board.specs.Boards.{BoardModel}
 use Rattle.board.specs.Faults.{tiles_code}
-use Rattle.board.specs.Letters.{letter_of, move_of_letter}
 use Rattle.board.specs.Plans.{Leads, NothingBelow, IsLeast}
 use Rattle.board.specs.declared.moves.Move.{Move}
-use Rattle.board.specs.declared.moves.Move.TheVariants.{U, L, R, D}
 use Rattle.board.specs.declared.faults.TilesFault.{TilesFault}
 use Rattle.board.specs.declared.faults.TilesFault.TheVariants.{WrongCount, TileOutOfRange, TileRepeated}
 use Rattle.outcomes.specs.Outcomes.{Task, IsBestPlan, AllowsWhy, AllowsCause, best_of}
@@ -27,16 +24,17 @@ use Rattle.outcomes.specs.Endings.{EndAnswers}
 use Rattle.outcomes.specs.declared.outcome.Ending.{Ending}
 use Rattle.outcomes.specs.declared.outcome.Ending.TheVariants.{Optimal, Unsolvable, Bounded}
 use Rattle.batch_lines.specs.Lines.{without_return, lines_of, onto_first, is_passed_over, line_kind_of}
-use Rattle.batch_lines.specs.Words.{IsEntry, SpellsDecimal, SpellEach, words_of, tile_words, IsFirstWordFault, IsFirstEntryFault, entry_code}
+use Rattle.batch_lines.specs.Words.{IsEntry, SpellsDecimal, words_of, tile_words, IsFirstWordFault, IsFirstEntryFault, entry_code}
 use Rattle.batch_lines.specs.declared.words.EntryFault.{EntryFault}
 use Rattle.batch_lines.specs.declared.words.EntryFault.TheVariants.{NoText, NoBoard}
 use Rattle.batch_lines.specs.declared.lines.LineKind.{LineKind}
 use Rattle.batch_lines.specs.declared.lines.LineKind.TheVariants.{PassedOver, Within, TooLong}
 use Rattle.batch_lines.specs.declared.lines.TheConstants.{LINE_LIMIT}
-use Rattle.batch_runs.specs.Reports.{outcome_data, refused_data, report_text, letters_of, best_data}
+use Rattle.batch_runs.specs.Reports.{outcome_data, refused_data, report_text}
 use Rattle.batch_runs.specs.ReportReadings.{IsSmall, HasSmallNumbers, IsReport, HasStatus, Reads}
 use Rattle.batch_runs.specs.ReportReadings.IsReport.{of_outcome, of_line}
-use Rattle.batch_runs.proofs.ReadLemmas.{report_read}
+use Rattle.batch_lines.proofs.TextLemmas.{same_numbers, no_word_fault}
+use Rattle.batch_runs.proofs.ReadLemmas.{report_read, data_or, text_in, number_in, first_letter, plan_of, own_plan, best_read, own_best}
 use Rattle.batch_runs.proofs.TextLemmas.{text_other}
 use Rattle.batch_runs.specs.Meanings.{Names, HasFault, asks, questions, IsQuestion, IsReply, SaysLeast, SaysNone, SaysBound, SaysRefused, AreAllDecided}
 use Rattle.batch_runs.specs.Batches.{Rules, IsTruthful, Answer, AnswersEntry, AnswersKind, AnswersLine, AnswersLines, answer_text, answers_text, with_answer, with_answers, no_lines, status_of_counts}
@@ -48,59 +46,16 @@ use Rattle.batch_runs.specs.Laws.{OptimalReportsAreLeast, UnsolvableReportsHaveN
 
 -- ---- a line names one board, and then it has no fault
 
-same_numbers : (words : List (List ℕ)) (ms ns : List ℕ) → SpellEach words ms → SpellEach words ns → ms ≡ ns
-same_numbers [] [] [] h k = refl
-same_numbers [] [] (n ∷ ns) h k = absurd k
-same_numbers [] (m ∷ ms) ns h k = absurd h
-same_numbers (word ∷ words) [] ns h k = absurd h
-same_numbers (word ∷ words) (m ∷ ms) [] h k = absurd k
-same_numbers (word ∷ words) (m ∷ ms) (n ∷ ns) h k =
-    let first : m ≡ n = sym h.0.value ∙ k.0.value in
-    let rest : ms ≡ ns = same_numbers words ms ns h.1 k.1 in
-    (λ i. first i ∷ rest i)
-
 -- a line names one board by one id
 pub same_name : (grid : ShapeModel) (line id id' : List ℕ) (b b' : BoardModel) → Names grid line id b → Names grid line id' b' → (id' ≡ id) × (b' ≡ b)
 same_name grid line id id' b b' (within, h) (within', k) =
     let sides : b'.grid ≡ b.grid = k.sides ∙ sym h.sides in
-    let tiles : b'.tiles ≡ b.tiles = same_numbers (tile_words (words_of (without_return line))) b'.tiles b.tiles k.spelled h.spelled in
+    let tiles : b'.tiles ≡ b.tiles = same_numbers (tile_words (words_of (without_return line))) b.tiles b'.tiles h.spelled k.spelled in
     (k.named ∙ sym h.named, (λ i. record { grid = sides i; tiles = tiles i }))
 
-abbrev word_or : Option (List ℕ) → List ℕ
-word_or None = []
-word_or (Some word) = word
-
--- the word at a place spells the number there
-spelled_at : (words : List (List ℕ)) (ns : List ℕ) (k : ℕ) (word : List ℕ) → SpellEach words ns → slice_get words k ≡ Some word → (n : ℕ) × (slice_get ns k ≡ Some n) × SpellsDecimal word n
-spelled_at [] ns k word h e = absurd (cc)
-spelled_at (w ∷ words) [] k word h e = absurd h
-spelled_at (w ∷ words) (n ∷ ns) zero word h e = (n, refl, subst (λ (v : List ℕ). SpellsDecimal v n) (ap word_or e) h.0)
-spelled_at (w ∷ words) (n ∷ ns) (suc k) word h e = spelled_at words ns k word h.1 e
-
-spelled_length : (words : List (List ℕ)) (ns : List ℕ) → SpellEach words ns → length words ≡ length ns
-spelled_length [] [] h = refl
-spelled_length [] (n ∷ ns) h = absurd h
-spelled_length (w ∷ words) [] h = absurd h
-spelled_length (w ∷ words) (n ∷ ns) h = ap suc (spelled_length words ns h.1)
-
-all_at : (ns : List ℕ) (k n top : ℕ) → All (λ tile. tile < top) ns → slice_get ns k ≡ Some n → n < top
-all_at ns k n top low e = subst (λ (m : ℕ). m < top) (get_or_from_slice_get ns k n 0 e) (low k 0 (slice_get_within ns k n e))
-
-pairs_at : (ns : List ℕ) (j k m n : ℕ) → AllPairs (λ x y. x ≢ y) ns → j < k → slice_get ns j ≡ Some m → slice_get ns k ≡ Some n → m ≢ n
-pairs_at ns j k m n apart less first later same =
-    apart j k 0 less (slice_get_within ns k n later) (get_or_from_slice_get ns j m 0 first ∙ same ∙ sym (get_or_from_slice_get ns k n 0 later))
-
-no_word_fault : (grid : ShapeModel) (words : List (List ℕ)) (b : BoardModel) → SpellEach words b.tiles → IsBoard b → b.grid ≡ grid → (fault : TilesFault) → ¬ IsFirstWordFault grid words fault
-no_word_fault grid words b spells board sides WrongCount found = found (spelled_length words b.tiles spells ∙ board.one_each ∙ ap cell_count sides)
-no_word_fault grid words b spells board sides (TileOutOfRange place) (word, first, at, large) =
-    let here = spelled_at words b.tiles place word spells at in
-    let low : here.0 < cell_count grid = subst (λ (g : ShapeModel). here.0 < cell_count g) sides (all_at b.tiles place here.0 (cell_count b.grid) board.in_range here.1) in
-    omega (arith, large here.0 here.2)
-no_word_fault grid words b spells board sides (TileRepeated place) (word, n, k, before, first, at, spell, low, less, there, same) =
-    let one = spelled_at words b.tiles place word spells at in
-    let two = spelled_at words b.tiles k before spells there in
-    let equal : two.0 ≡ one.0 = sym two.2.value ∙ same.value ∙ sym spell.value ∙ one.2.value in
-    pairs_at b.tiles k place two.0 one.0 board.different less two.1 one.1 equal
+abbrev pub text_or : Option (List ℕ) → List ℕ
+text_or None = []
+text_or (Some text) = text
 
 no_entry_fault : (grid : ShapeModel) (line id : List ℕ) (b : BoardModel) → IsEntry grid line id b → (fault : EntryFault) → ¬ IsFirstEntryFault grid line fault
 no_entry_fault grid line id b entry NoText found = found entry.text
@@ -128,7 +83,7 @@ not_two_places grid words place place' (word, first, at, large) (word', n, k, be
     (λ (later : place' < place). first.different k place' before word' n less later there at' same spell)
     (λ (not_later : place ≤ place').
     let here : place' ≡ place = omega arith in
-    let one : word' ≡ word = ap word_or (sym at' ∙ ap (λ (j : ℕ). slice_get words j) here ∙ at) in
+    let one : word' ≡ word = ap text_or (sym at' ∙ ap (λ (j : ℕ). slice_get words j) here ∙ at) in
     absurd (omega (arith, low, large n (subst (λ (w : List ℕ). SpellsDecimal w n) one spell))))
     (cases_lt place' place))
     (cases_lt place place')
@@ -283,28 +238,9 @@ module _ (rules : Rules) (S : Type 0) where
 
 -- ---- what is read is what was reported
 
-abbrev pub data_or : Option Data → Data
-data_or None = null
-data_or (Some d) = d
-
-abbrev line_or : Option (List ℕ) → List ℕ
-line_or None = []
-line_or (Some line) = line
-
 abbrev question_or : Option (ℕ × List ℕ) → ℕ × List ℕ
 question_or None = (0, [])
 question_or (Some q) = q
-
-abbrev text_in : Data → List ℕ
-text_in null = []
-text_in (boolean b) = []
-text_in (number n) = []
-text_in (string s) = s
-text_in (array ds) = []
-text_in (object ms) = []
-
-abbrev first_letter : Option Data → ℕ
-first_letter o = get_or (text_in (data_or o)) 0 0
 
 outcome_true : (task : Task) (id : List ℕ) (outcome : Ending) → EndAnswers task outcome → IsTrueOfBoard task id (outcome_data id outcome)
 outcome_true task id (Optimal cost plan) answers = record {
@@ -331,31 +267,11 @@ outcome_true task id (Bounded bound best cause) answers = record {
 
 -- ---- what a true report says of plans
 
-abbrev pub letters_in : Option Data → List ℕ
-letters_in o = text_in (data_or o)
-
-abbrev number_in : Option Data → ℕ
-number_in o = unwrap_or (option_and_then as_u64 (option_and_then as_number o)) 0
-
-abbrev moves_of : List ℕ → List Move
-moves_of [] = []
-moves_of (letter ∷ letters) = unwrap_or (move_of_letter letter) U ∷ moves_of letters
-
-own_move : (m : Move) → unwrap_or (move_of_letter (letter_of m)) U ≡ m
-own_move U = refl
-own_move L = refl
-own_move R = refl
-own_move D = refl
-
-own_moves : (plan : List Move) → moves_of (letters_of plan) ≡ plan
-own_moves [] = refl
-own_moves (m ∷ plan) = (λ i. own_move m i ∷ own_moves plan i)
-
 pub reported_least : OptimalReportsAreLeast
 reported_least task id name cost plan true_of =
     let says = true_of.optimal refl in
     let costs : cost ≡ says.0 = ap number_in says.2 in
-    let plans : plan.items ≡ says.1 = sym (own_moves plan.items) ∙ ap (λ (o : Option Data). moves_of (letters_in o)) says.3 ∙ own_moves says.1 in
+    let plans : plan.items ≡ says.1 = sym (own_plan plan.items) ∙ ap (λ (o : Option Data). plan_of (text_in o)) says.3 ∙ own_plan says.1 in
     let leads : Leads task.rule task.start plan.items task.goal says.0 = subst (λ (moves : List Move). Leads task.rule task.start moves task.goal says.0) (sym plans) says.4 in
     subst (λ (c : ℕ). Leads task.rule task.start plan.items task.goal c × IsLeast task.rule task.start task.goal c) (sym costs) (leads, says.5)
 
@@ -369,7 +285,7 @@ allowed_why task Parity Exhausted e allowed = let z = ap (λ (word : List ℕ). 
 allowed_why task Exhausted why' e allowed = tt
 
 pub reported_why : ReasonsAreTrue
-reported_why task id name why true_of = let says = (true_of.unsolvable refl).1 in allowed_why task why says.0 (ap letters_in says.1) says.2
+reported_why task id name why true_of = let says = (true_of.unsolvable refl).1 in allowed_why task why says.0 (ap text_in says.1) says.2
 
 pub reported_bound : BoundedReportsAreBelow
 reported_bound task id name bound best cause true_of =
@@ -377,24 +293,12 @@ reported_bound task id name bound best cause true_of =
     let bounds : bound ≡ says.0 = ap number_in says.3 in
     subst (NothingBelow task.rule task.start task.goal) (sym bounds) says.6
 
-abbrev best_in : Data → Option (ℕ × List Move)
-best_in null = None
-best_in (boolean b) = None
-best_in (number n) = None
-best_in (string s) = None
-best_in (array ds) = None
-best_in (object ms) = Some (number_in (get (codes "cost") (object ms)), moves_of (letters_in (get (codes "plan") (object ms))))
-
-own_best : (best : Option (ℕ × List Move)) → best_in (best_data best) ≡ best
-own_best None = refl
-own_best (Some best) = ap (λ (plan : List Move). Some (best.0, plan)) (own_moves best.1)
-
 pub reported_best : BestPlansLead
 reported_best task id name bound cost plan cause true_of =
     let says = true_of.bounded refl in
     let best : Option (ℕ × List Move) = Some (cost, plan.items) in
     let bounds : bound ≡ says.0 = ap number_in says.3 in
-    let plans : best ≡ says.1 = sym (own_best best) ∙ ap (λ (o : Option Data). best_in (data_or o)) says.4 ∙ own_best says.1 in
+    let plans : best ≡ says.1 = sym (own_best best) ∙ ap (λ (o : Option Data). best_read (data_or o)) says.4 ∙ own_best says.1 in
     let leads : IsBestPlan task says.0 best = subst (λ (it : Option (ℕ × List Move)). IsBestPlan task says.0 it) (sym plans) says.7 in
     subst (λ (c : ℕ). IsBestPlan task c best) (sym bounds) leads
 
@@ -414,12 +318,12 @@ pub reported_cause : CausesAreTrue
 reported_cause task id name bound best cause true_of =
     let says = true_of.bounded refl in
     let bounds : bound ≡ says.0 = ap number_in says.3 in
-    allowed_cause bound cause says.2 (ap letters_in says.5) (subst (λ (c : ℕ). AllowsCause c says.2) (sym bounds) says.8)
+    allowed_cause bound cause says.2 (ap text_in says.5) (subst (λ (c : ℕ). AllowsCause c says.2) (sym bounds) says.8)
 
 pub reported_name : ReportsAreNamed
-reported_name task id name (Optimal cost plan) true_of = ap letters_in true_of.named
-reported_name task id name (Unsolvable why) true_of = ap letters_in true_of.named
-reported_name task id name (Bounded bound best cause) true_of = ap letters_in true_of.named
+reported_name task id name (Optimal cost plan) true_of = ap text_in true_of.named
+reported_name task id name (Unsolvable why) true_of = ap text_in true_of.named
+reported_name task id name (Bounded bound best cause) true_of = ap text_in true_of.named
 
 -- ---- what is taken from an output that tells the truth
 
@@ -458,12 +362,12 @@ refused_board rules lines output k n m line id code b told asked names seen = of
   where
     of_reply : IsTrueOfBoard (rules.task b) id (refused_data code m) ⊎ SaysRefused (refused_data code m) (codes "V3") n × rules.allows b None → (code ≡ codes "V3") × (m ≡ n) × rules.allows b None
     of_reply (inl true_of) = absurd (not_refused code m true_of.status)
-    of_reply (inr (says, lacking)) = (ap letters_in says.1, ap number_in says.2, lacking)
+    of_reply (inr (says, lacking)) = (ap text_in says.1, ap number_in says.2, lacking)
 
 pub refused_line : (rules : Rules) → RefusedLinesAreFaulty rules
 refused_line rules lines output k n m line code fault told asked faulty seen =
     let says = told.unnamed k n line (refused_data code m) asked (λ id b names. no_fault rules.grid line id fault b names faulty) seen in
-    (ap letters_in says.2.1 ∙ same_code rules.grid line says.0 fault says.1 faulty, ap number_in says.2.2)
+    (ap text_in says.2.1 ∙ same_code rules.grid line says.0 fault says.1 faulty, ap number_in says.2.2)
 
 -- the report of an ending isn't the report of a refused line
 pub no_refusal : (name : List ℕ) (ending : Ending) → ¬ HasStatus (outcome_data name ending) (codes "refused")
@@ -489,7 +393,7 @@ passed_counted passed line over asking = rw (over, asking) refl
 pub line_read : (rules : Rules) → OutputLinesAreRead rules
 line_read rules lines output k line told at =
     let reply = told.json k (slice_get_within (lines_of output) k line at) in
-    let same : reply.1.0 ≡ line = ap word_or (sym reply.1.1 ∙ at) in
+    let same : reply.1.0 ≡ line = ap text_or (sym reply.1.1 ∙ at) in
     (reply.0, subst (λ (l : List ℕ). Reads l reply.0) same reply.1.2)
 
 pub silence : (rules : Rules) → SilenceIsNoTruth rules
@@ -521,7 +425,7 @@ module _ (rules : Rules) (S : Type 0) (lines : List (List ℕ)) (output : List �
   -- the value that is read at a place is the one that was reported there
   same_value : (k : ℕ) (d : Data) (at : ToldAt rules S (questions 1 lines) told.0 k) → IsReply output k d → at.1 ≡ d
   same_value k d at seen =
-      let text : compact_text at.1 ≡ seen.0 = ap line_or (sym at.3 ∙ sym (ap (λ (ls : List (List ℕ)). slice_get ls k) told.1) ∙ seen.1) in
+      let text : compact_text at.1 ≡ seen.0 = ap text_or (sym at.3 ∙ sym (ap (λ (ls : List (List ℕ)). slice_get ls k) told.1) ∙ seen.1) in
       ap data_or (sym (report_read at.1 (is_report rules S at.0.0 at.0.1 at.1 at.4)) ∙ ap read text ∙ seen.2)
 
   reply_told : (k n : ℕ) (line : List ℕ) (d : Data) → IsQuestion lines k n line → IsReply output k d → Tells rules n line d

@@ -2,6 +2,7 @@
 
 ghost use Rattle.std.specs.Prelude.{◌≡◌, ℕ, IfOk, Some, Vec, false, string_bytes};
 ghost use Rattle.std.specs.declared.alloc.Global.{Global};
+ghost use Rattle.serde_json.specs.Data.{Data};
 ghost use Rattle.serde_json.specs.View.{view};
 ghost use Rattle.serde_json.specs.Written.{has_float};
 ghost use Rattle.board.specs.declared.moves.Move.{Move};
@@ -41,11 +42,7 @@ pub fn outcome_report(alloc: Global, id: &str, outcome: &Ending) -> Result<Strin
 pub fn refused_report(alloc: Global, code: &str, line: u64) -> Result<String, NoReport>
     ensures { IfOk result (λ text. string_bytes text ≡ report_text (refused_data code.now line)) }
 {
-    let value = match refused_value(alloc, code, line) {
-        Ok(value) => value,
-        Err(refused) => return Err(NoReport { refused }),
-    };
-    json_line(alloc, &value)
+    report_of(alloc, refused_value(alloc, code, line))
 }
 
 /// The report of a certificate that is accepted: one JSON object and a line feed. The cost is the
@@ -53,11 +50,7 @@ pub fn refused_report(alloc: Global, code: &str, line: u64) -> Result<String, No
 pub fn accepted_report(alloc: Global, cost: u32) -> Result<String, NoReport>
     ensures { IfOk result (λ text. string_bytes text ≡ report_text (accepted_data cost)) }
 {
-    let value = match accepted_value(alloc, cost) {
-        Ok(value) => value,
-        Err(refused) => return Err(NoReport { refused }),
-    };
-    json_line(alloc, &value)
+    report_of(alloc, accepted_value(alloc, cost))
 }
 
 /// The report of a certificate of a bound that is accepted: one JSON object and a line feed. No
@@ -65,11 +58,7 @@ pub fn accepted_report(alloc: Global, cost: u32) -> Result<String, NoReport>
 pub fn accepted_bound_report(alloc: Global, bound: u32) -> Result<String, NoReport>
     ensures { IfOk result (λ text. string_bytes text ≡ report_text (accepted_bound_data bound)) }
 {
-    let value = match accepted_bound_value(alloc, bound) {
-        Ok(value) => value,
-        Err(refused) => return Err(NoReport { refused }),
-    };
-    json_line(alloc, &value)
+    report_of(alloc, accepted_bound_value(alloc, bound))
 }
 
 /// The report of a certificate that is refused by a fault with this code: one JSON object and a
@@ -78,11 +67,7 @@ pub fn refused_certificate_report(alloc: Global, code: &str) -> Result<String, N
     ensures { IfOk result (λ text.
         string_bytes text ≡ report_text (refused_certificate_data code.now)) }
 {
-    let value = match refused_certificate_value(alloc, code) {
-        Ok(value) => value,
-        Err(refused) => return Err(NoReport { refused }),
-    };
-    json_line(alloc, &value)
+    report_of(alloc, refused_certificate_value(alloc, code))
 }
 
 // The object of an outcome.
@@ -185,7 +170,8 @@ fn plan_value(alloc: Global, cost: u32, plan: &[Move]) -> Result<Value, OutOfMem
 
 // The object of a line that is refused.
 fn refused_value(alloc: Global, code: &str, line: u64) -> Result<Value, OutOfMemory>
-    ensures { IfOk result (λ built. view built ≡ refused_data code.now line) }
+    ensures value { IfOk result (λ built. view built ≡ refused_data code.now line) }
+    ensures no_float { IfOk result (λ built. has_float (view built) ≡ false) }
 {
     let mut members = Map::new(alloc);
     put(&mut members, alloc, "fault", text_value(alloc, code)?)?;
@@ -196,7 +182,8 @@ fn refused_value(alloc: Global, code: &str, line: u64) -> Result<Value, OutOfMem
 
 // The object of a certificate that is accepted.
 fn accepted_value(alloc: Global, cost: u32) -> Result<Value, OutOfMemory>
-    ensures { IfOk result (λ built. view built ≡ accepted_data cost) }
+    ensures value { IfOk result (λ built. view built ≡ accepted_data cost) }
+    ensures no_float { IfOk result (λ built. has_float (view built) ≡ false) }
 {
     let mut members = Map::new(alloc);
     put(&mut members, alloc, "cost", cost.into())?;
@@ -211,7 +198,8 @@ fn accepted_value(alloc: Global, cost: u32) -> Result<Value, OutOfMemory>
 
 // The object of a certificate of a bound that is accepted.
 fn accepted_bound_value(alloc: Global, bound: u32) -> Result<Value, OutOfMemory>
-    ensures { IfOk result (λ built. view built ≡ accepted_bound_data bound) }
+    ensures value { IfOk result (λ built. view built ≡ accepted_bound_data bound) }
+    ensures no_float { IfOk result (λ built. has_float (view built) ≡ false) }
 {
     let mut members = Map::new(alloc);
     put(&mut members, alloc, "bound", bound.into())?;
@@ -226,7 +214,8 @@ fn accepted_bound_value(alloc: Global, bound: u32) -> Result<Value, OutOfMemory>
 
 // The object of a certificate that is refused.
 fn refused_certificate_value(alloc: Global, code: &str) -> Result<Value, OutOfMemory>
-    ensures { IfOk result (λ built. view built ≡ refused_certificate_data code.now) }
+    ensures value { IfOk result (λ built. view built ≡ refused_certificate_data code.now) }
+    ensures no_float { IfOk result (λ built. has_float (view built) ≡ false) }
 {
     let mut members = Map::new(alloc);
     put(&mut members, alloc, "fault", text_value(alloc, code)?)?;
@@ -243,6 +232,18 @@ fn plan_letters(alloc: Global, plan: &[Move]) -> Result<String, OutOfMemory>
         push_char(&mut text, direction.letter() as char)?;
     }
     Ok(text)
+}
+
+// The report that an object makes, where there was memory for the object.
+fn report_of(alloc: Global, value: Result<Value, OutOfMemory>) -> Result<String, NoReport>
+    requires { IfOk value (λ built. has_float (view built) ≡ false) }
+    ensures { (said : Data) → IfOk value (λ built. view built ≡ said) →
+        IfOk result (λ text. string_bytes text ≡ report_text said) }
+{
+    match value {
+        Ok(value) => json_line(alloc, &value),
+        Err(refused) => Err(NoReport { refused }),
+    }
 }
 
 // A value without floats as compact JSON on a line of its own.
