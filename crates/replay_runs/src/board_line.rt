@@ -9,11 +9,10 @@ ghost use Rattle.replay_runs.specs.Replays.{Jobs, IsGuidedJob, IsReadLine, Opens
 ghost use Rattle.replay_runs.specs.Replays.{IsLineRefusedBy};
 ghost use Rattle.replay_runs.specs.Replays.{Replays, ReportsRefusal};
 
-use crate::sending::send;
 use crate::stepping::{Opened, Run, replay_steps};
 use arrayvec::ArrayVec;
 use batch_lines::{EntryFault, LINE_LIMIT, LineKind, LineReader, read_entry};
-use batch_runs::{LinesFault, find_line, refused_report};
+use batch_runs::{LinesFault, find_line, refused_report, send_report};
 use board::{Board, Shape};
 use byte_streams::{Sink, Source};
 use memory::OutOfMemory;
@@ -106,7 +105,7 @@ fn refuse<K: Sink>(alloc: Global, sink: &mut K, code: &str, number: u64) -> Resu
         Ok(report) => report,
         Err(lacking) => return Err(LinesFault::Memory(lacking)),
     };
-    let Ok(()) = send(sink, report.as_str()) else {
+    let Ok(()) = send_report(sink, report.as_str()) else {
         return Err(LinesFault::Write);
     };
     Ok(1)

@@ -1,19 +1,11 @@
-//! Lines that are written and passed on at once.
+//! Words on lines of their own, which are written and passed on at once.
 
 ghost use Rattle.std.specs.Prelude.{◌≡◌, ◌++◌, ◌∷◌, [], OnOk};
 ghost use Rattle.byte_streams.specs.Streams.{change};
 ghost use Rattle.byte_streams.specs.Sink.{Writes};
 
+use batch_runs::send_report;
 use byte_streams::{Sink, WriteFailed};
-
-/// Writes a report, and passes it on.
-pub(crate) fn send<K: Sink>(sink: &mut K, text: &str) -> Result<(), WriteFailed>
-    ensures writes { Writes (change K.state sink.old sink.new) text.now result }
-    ensures last { OnOk result (K.is_flushed sink.new) }
-{
-    sink.put(text.as_bytes())?;
-    sink.flush()
-}
 
 /// Writes a word on a line of its own, and passes it on.
 pub(crate) fn send_word<K: Sink>(sink: &mut K, word: &str) -> Result<(), WriteFailed>
@@ -23,5 +15,5 @@ pub(crate) fn send_word<K: Sink>(sink: &mut K, word: &str) -> Result<(), WriteFa
     let Ok(()) = sink.put(word.as_bytes()) else {
         return Err(WriteFailed);
     };
-    send(sink, "\n")
+    send_report(sink, "\n")
 }

@@ -15,10 +15,10 @@ ghost use Rattle.replay_runs.specs.Replies.{reply_to, line_of, replay_status_of}
 ghost use Rattle.replay_runs.specs.Stepping.{RepliesToLines, Finishes};
 
 use crate::answers::{NO_STEP, answer_word};
-use crate::sending::{send, send_word};
+use crate::sending::send_word;
 use crate::steps::read_step;
 use batch_lines::{Line, LineKind, LineReader};
-use batch_runs::{LinesFault, outcome_report};
+use batch_runs::{LinesFault, outcome_report, send_report};
 use byte_streams::{Sink, Source, WriteFailed};
 use outcomes::{Ending, Outcome};
 use std::alloc::Global;
@@ -73,7 +73,7 @@ pub(crate) fn replay_steps<S: Source, K: Sink, R: Run + Drop>(
         Ok(report) => report,
         Err(lacking) => return Err(LinesFault::Memory(lacking)),
     };
-    let Ok(()) = send(sink, report.as_str()) else {
+    let Ok(()) = send_report(sink, report.as_str()) else {
         return Err(LinesFault::Write);
     };
     Ok(status_of(said, &ending))

@@ -14,7 +14,7 @@ returns-in_default-clause-replays g c = λ begun lines has.
     let world = g.R.Run.world in
     let text : c.as_str.result.now ≡ report_text (outcome_data c.args.opened.id.now (without_rows c.finish-outcome.result)) = c.as_str.ensures.value ∙ c.in-Ok-outcome_report.ensures.text ∙ ap (λ (ending : Ending). report_text (outcome_data c.args.opened.id.now ending)) c.without_rows-ending.ensures in
     let small : HasSmallNumbers (without_rows c.finish-outcome.result) = subst HasSmallNumbers c.without_rows-ending.ensures c.in-Ok-outcome_report.ensures.small in
-    finishes_part (from_to begun (g.S.Source.state c.answer_lines.new.source)) lines (world c.args.opened.run) (world c.answer_lines.new.run) (sink c.args.sink.now) (sink c.answer_lines.new.sink) (sink c.send.new.sink) c.args.opened.id.now c.in-Ok.said c.finish-outcome.result (c.in-Ok.ensures.answers begun lines has) (c.finish-outcome.ensures, small) (rw text at c.in_default.ensures.writes)
+    finishes_part (from_to begun (g.S.Source.state c.answer_lines.new.source)) lines (world c.args.opened.run) (world c.answer_lines.new.run) (sink c.args.sink.now) (sink c.answer_lines.new.sink) (sink c.send_report.new.sink) c.args.opened.id.now c.in-Ok.said c.finish-outcome.result (c.in-Ok.ensures.answers begun lines has) (c.finish-outcome.ensures, small) (rw text at c.in_default.ensures.writes)
 
 pub returns-clause-replays : goal.returns-clause-replays
 returns-clause-replays g c = λ begun lines has.
@@ -22,4 +22,4 @@ returns-clause-replays g c = λ begun lines has.
     let world = g.R.Run.world in
     let text : c.as_str.result.now ≡ report_text (outcome_data c.args.opened.id.now (without_rows c.finish-outcome.result)) = c.as_str.ensures.value ∙ c.in-Ok-outcome_report.ensures.text ∙ ap (λ (ending : Ending). report_text (outcome_data c.args.opened.id.now ending)) c.without_rows-ending.ensures in
     let small : HasSmallNumbers (without_rows c.finish-outcome.result) = subst HasSmallNumbers c.without_rows-ending.ensures c.in-Ok-outcome_report.ensures.small in
-    finishes (from_to begun (g.S.Source.state c.answer_lines.new.source)) lines (world c.args.opened.run) (world c.answer_lines.new.run) (sink c.args.sink.now) (sink c.answer_lines.new.sink) (sink c.send.new.sink) c.args.opened.id.now c.in-Ok.said c.finish-outcome.result c.status_of.result (c.in-Ok.ensures.answers begun lines has) (c.finish-outcome.ensures, small) (rw text at c.in-Ok-send.ensures.writes) (c.status_of.ensures ∙ ap (λ (ending : Ending). replay_status_of c.in-Ok.said ending) c.without_rows-ending.ensures)
+    finishes (from_to begun (g.S.Source.state c.answer_lines.new.source)) lines (world c.args.opened.run) (world c.answer_lines.new.run) (sink c.args.sink.now) (sink c.answer_lines.new.sink) (sink c.send_report.new.sink) c.args.opened.id.now c.in-Ok.said c.finish-outcome.result c.status_of.result (c.in-Ok.ensures.answers begun lines has) (c.finish-outcome.ensures, small) (rw text at c.in-Ok-send_report.ensures.writes) (c.status_of.ensures ∙ ap (λ (ending : Ending). replay_status_of c.in-Ok.said ending) c.without_rows-ending.ensures)
