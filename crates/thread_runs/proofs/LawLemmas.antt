@@ -25,6 +25,7 @@ use Rattle.hda_run.specs.WholeRuns.{EndsWholeRun, IsOfWholeRun}
 use Rattle.hda_run.specs.Worlds.{job_of, IsWorkerCount}
 use Rattle.hda_run.proofs.LawLemmas.{never_stated}
 use Rattle.thread_runs.proofs.WorldLemmas.{joined_answers}
+use Rattle.thread_runs.proofs.TakenLemmas.{some_is}
 use Rattle.thread_runs.specs.JoinedLaws.{JoinedWorldsAnswer}
 use Rattle.thread_runs.specs.Solved.{IsFoundByWorkers, IsLeftToOne}
 use Rattle.outcomes.specs.declared.outcome.Cause.{Cause}
@@ -40,16 +41,6 @@ use Rattle.world_model.specs.declared.limits.TheConstants.{GREATEST_GRANT}
 use Rattle.thread_runs.specs.Laws.{HasItsRows, IsLimitCostOrMemory, WholeRunsSayWhy, OneIsAlone, SeveralAreJoined, SolvedRunsEnd, LimitsAreKept, FiguresAreWithinTheLimit, FiguresSpendTheLimit, ThreadsAreAsAsked, SolvedRunsAnswer}
 use Rattle.world_model.specs.declared.steps.Stop.TheVariants as stops
 use Rattle.outcomes.specs.declared.outcome.Outcome.TheVariants as outcome
-
-some_is : {X : Type 0} (a b : X) → Some a ≡ Some b → a ≡ b
-some_is a b h = cc
-
--- what holds of each element and of one more at the end
-pub each_more : {X : Type 0} (P : ℕ → X → Type 0) (xs : List X) (y : X) → ((i : ℕ) (x : X) → slice_get xs i ≡ Some x → P i x) → P (length xs) y → (i : ℕ) (x : X) → slice_get (xs ++ y ∷ []) i ≡ Some x → P i x
-each_more P [] y old new zero x at = subst (P 0) (some_is y x at) new
-each_more P [] y old new (suc i) x at = absurd (cc at)
-each_more P (z ∷ xs) y old new zero x at = old 0 x at
-each_more P (z ∷ xs) y old new (suc i) x at = each_more (λ (k : ℕ). P (suc k)) xs y (λ k v h. old (suc k) v h) new i x at
 
 -- each of equal elements
 replicated : {X : Type 0} (n i : ℕ) (x y : X) → slice_get (replicate n x) i ≡ Some y → y ≡ x

@@ -3,7 +3,8 @@ use Rattle.std.specs.Prelude.{slice_get, slice_index_or}
 use Rattle.std.specs.declared.alloc.Global.{Global}
 use Rattle.thread_parts.specs.Rings.{SenderModel, ReceiverModel, out_rings, in_rings, sent_lanes, received_lanes, rings_of_outs, rings_of_ins}
 use Rattle.thread_parts.specs.Parts.{face}
-use Rattle.thread_runs.proofs.LawLemmas.{each_more, row_is, row_same, IsFace, joint_of}
+use Rattle.thread_runs.proofs.TakenLemmas.{each_more}
+use Rattle.thread_runs.proofs.LawLemmas.{row_is, row_same, IsFace, joint_of}
 use Rattle.thread_runs.proofs.opening.open_parts.Goals as goal
 
 pub open_part-requires-clause-sent : goal.open_part-requires-clause-sent
