@@ -25,9 +25,11 @@ use Rattle.world_model.specs.Shapes.{IsPacketFor}
 use Rattle.world_model.specs.WorkerSteps.{SettleStep}
 use Rattle.world_model.specs.PartChanges.{HoldsOwnLast}
 use Rattle.search_lists.specs.declared.lists.Next.{Next}
-use Rattle.search_lists.specs.Lists.{SearchListsModel, empty_lists}
+use Rattle.open_buckets.specs.OpenLists.{entries_at, places_at}
+use Rattle.search_lists.specs.Lists.{SearchListsModel, empty_lists, HasMoreRoom}
 use Rattle.search_lists.specs.Orders as orders
 use Rattle.search_lists.specs.Orders.{Guide, IsInOrder, NoneBelow, IsLeastOpen}
+use Rattle.search_lists.proofs.OrderLemmas.{empty_order}
 use Rattle.worker_core.specs.Workers.{packets_of}
 use Rattle.worker_core.specs.Contexts.{ContextModel, task_from}
 use Rattle.worker_core.specs.Roles.{IsGuideOf, IsGuided, TasksHaveGuides}
@@ -152,19 +154,23 @@ no_boards = map.empty
 unknown : (key : ℕ) (known : Known) → map.get no_boards key ≡ Some known → ⊥
 unknown key known at = let none : ◌≡◌ {A = Option Known} None (Some known) = sym (map.get-empty nat_cmp key) ∙ at in cc
 
-empty_order : (guide : Guide) → IsInOrder guide empty_lists
-empty_order guide = record {
-  waits = λ key known at. absurd (unknown key known at.knows);
-  adds = λ f place cost has. let inside : has.0 < 0 = has.1 in absurd (omega (arith, inside));
+-- then each guide of a task guides the lists, however much room they have
+pub empty_guided : (task : Task) (guide : Guide) (lists : SearchListsModel) → IsGuideOf task guide → HasMoreRoom empty_lists lists → IsGuided task guide lists
+empty_guided task guide lists leads more = record {
+  guides = leads;
+  order = empty_order guide lists more;
+  boards = λ key known at. absurd (unknown key known (ap (λ m. map.get m key) (sym more.known) ∙ at));
 }
 
--- then each guide of a task guides the lists
-pub empty_guided : (task : Task) (guide : Guide) (lists : SearchListsModel) → IsGuideOf task guide → lists ≡ empty_lists → IsGuided task guide lists
-empty_guided task guide lists leads none = subst (IsGuided task guide) (sym none) (record {
-  guides = leads;
-  order = empty_order guide;
-  boards = λ key known at. absurd (unknown key known at);
-})
+-- new lists are empty
+pub new_is_empty : (lists : SearchListsModel) → lists ≡ empty_lists → HasMoreRoom empty_lists lists
+new_is_empty lists same = record {
+  keys = ap (λ (l : SearchListsModel). l.closed.keys) same;
+  known = ap (λ (l : SearchListsModel). l.closed.known) same;
+  room = let n = ap (λ (l : SearchListsModel). l.closed.room) same in omega (arith, n);
+  entries = λ h. ap (λ (l : SearchListsModel). entries_at l.waiting h) same;
+  places = λ h. let n = ap (λ (l : SearchListsModel). places_at l.waiting h) same in omega (arith, n);
+}
 
 -- ---- the last item that is held
 

@@ -7,7 +7,7 @@ ghost use Rattle.world_model.specs.Costs.{limit_of};
 ghost use Rattle.world_model.specs.Openings.{idle_worker};
 ghost use Rattle.world_model.specs.Workers.{packet_for};
 ghost use Rattle.outcomes.specs.Outcomes.{Task};
-ghost use Rattle.search_lists.specs.Lists.{empty_lists};
+ghost use Rattle.search_lists.specs.Lists.{empty_lists, HasMoreRoom};
 ghost use Rattle.search_lists.specs.Orders.{Guide};
 ghost use Rattle.worker_core.specs.Roles.{IsGuideOf, IsGuided};
 ghost use Rattle.worker_core.specs.Workers.{state_of};
@@ -57,15 +57,46 @@ impl<C: Counting> Worker<C> {
         ensures allowance { IfOk result (λ worker. worker.allowance ≡ allowance) }
         ensures workers { IfOk result (λ worker. length worker.unsent.items ≡ workers) }
     {
+        Worker::with_lists(alloc, workers, purse, allowance, SearchLists::new(alloc))
+    }
+
+    /// The same with these lists. They know nothing, but may have memory from a search before.
+    pub fn with_lists(
+        alloc: Global,
+        workers: usize,
+        purse: Purse<C>,
+        allowance: Allowance<C>,
+        lists: SearchLists,
+    ) -> Result<Self, OutOfMemory>
+        requires few { workers ≤ WORKER_LIMIT }
+        requires empty { HasMoreRoom empty_lists lists }
+        ensures state { IfOk result (λ worker. state_of worker ≡ record (idle_worker workers) {
+          purse = purse;
+          allowance = allowance.left;
+          expansions = spent allowance;
+        }) }
+        ensures lists { IfOk result (λ worker. worker.lists ≡ lists) }
+        ensures guided { IfOk result (λ worker. (task : Task) (guide : Guide)
+            → IsGuideOf task guide → IsGuided task guide worker.lists) }
+        ensures allowance { IfOk result (λ worker. worker.allowance ≡ allowance) }
+        ensures workers { IfOk result (λ worker. length worker.unsent.items ≡ workers) }
+    {
         let unsent = new_packets(alloc, workers)?;
         Ok(Worker {
-            lists: SearchLists::new(alloc),
+            lists,
             held: ArrayVec::new(),
             unsent,
             purse,
             allowance,
             best: Best::new(),
         })
+    }
+
+    /// The boards that it knows, without it.
+    pub fn into_lists(self) -> SearchLists
+        ensures { result ≡ self.lists }
+    {
+        self.lists
     }
 
     /// How many workers there are.
