@@ -174,7 +174,7 @@ said_rule grid text rule said =
     let high : All (λ n. n < 256) said.weights = All-from_get_or (λ n. n < 256) said.weights 0 (λ k inside. let low = sound.high (suc k) (omega (arith, inside, count)) in omega (arith, low)) in
     said.listed ∙ ap (listed_rule grid) (sym (weights_are (comma_words text) said.weights said.spelled high))
 
--- words the first of which spells no number say no weights
+-- where the first word spells no number, words say no weights
 no_weights : (grid : ShapeModel) (text word : List ℕ) (others : List (List ℕ)) (rule : WeightsModel) → comma_words text ≡ word ∷ others → ((n : ℕ) → ¬ SpellsDecimal word n) → SaysWeights grid text rule → ⊥
 no_weights grid text word others rule words none said = no_number said.weights (subst (λ (ws : List (List ℕ)). SpellEach ws said.weights) words said.spelled)
   where

@@ -279,8 +279,8 @@ pub(crate) fn read_ahead(index: &Index, key: u128) -> u32
     bucket.hashes[0] ^ bucket.places[ENTRIES - 1]
 }
 
-// Puts a slot into a bucket with free entries, of which the next one is clear, if it belongs there.
-// Neither case takes a guess of the processor: what is written where it does not is known.
+// Puts a slot into a bucket whose next entry is free and clear, if it belongs there. Neither case
+// takes a guess of the processor: both write that entry.
 fn put_if(bucket: &mut Bucket, place: usize, hash: u32, belongs: bool)
     requires free { bucket.old.count < 7 }
     requires clear { IsClearAt bucket.old bucket.old.count }
@@ -416,7 +416,7 @@ fn add_chain(index: &mut Index)
     index.buckets.set(chains, halves.go);
 }
 
-// Clears the buckets of the first chains, of which no slot is left. Others are written when their
+// Clears the buckets of the first chains, where no slot is left. Others are written when their
 // chains are added.
 pub(crate) fn clear_first_buckets(buckets: &mut Pages<Bucket>)
     ensures clear { AreClear buckets.new }
