@@ -2,7 +2,7 @@
 //! run with any solver, and the reports as JSON.
 //!
 //! - `run_lines` runs over all lines with any `Solver`; `Rules` (from the trait `Ruled`) say what
-//!   it may answer. It names no crate that searches.
+//!   it may answer. The crate uses none that searches.
 //! - Each report is written and flushed before the next line is taken (`send_report`).
 //! - `solve_ahead` may solve boards ahead: it sees the bytes that the source holds, takes none, and
 //!   its endings are used for their own boards alone (`take_ready`).

@@ -24,7 +24,7 @@ const FACTOR: u128 = 0x9E37_79B9_7F4A_7C15_F39C_C060_5CED_C835;
 // The number of slots whose places and hashes a bucket has.
 const ENTRIES: usize = 7;
 
-// How many slots there are for each chain, where there are more than the first ones.
+// How many slots there are to a chain, once there are more than the first chains.
 const LOAD: usize = 4;
 
 // How many chains are made with the first slot.
@@ -44,8 +44,8 @@ pub(crate) struct Slot {
 }
 
 // The slots of a chain, in a cache line: the hashes and the places of the first ones. The others
-// hang in a list, the last one first, and there is a bit for each hash among them. A link is the
-// place of a slot and 1 more, and 0 at the end of a list.
+// hang in a list, the last one first, and a filter has the bit of each hash among them. A link is
+// the place of a slot and 1 more, and 0 at the end of a list.
 #[derive(Clone, Copy)]
 pub(crate) struct Bucket {
     pub(crate) hashes: [u32; ENTRIES],
@@ -77,7 +77,7 @@ pub(crate) struct Index {
     pub(crate) buckets: Pages<Bucket>,
     pub(crate) len: usize,
     pub(crate) bits: u32,
-    // What was read of lists ahead, which nobody asks for.
+    // What was read ahead of lists. It is never used.
     pub(crate) ahead: u64,
 }
 
@@ -178,8 +178,8 @@ fn put(bucket: &mut Bucket, place: usize, hash: u32)
     }
 }
 
-// Whether one of a bucket's hashes is this one, also of those where no slot is. All of them are
-// compared: the processor often guesses wrong where the last slot is, and mostly none has the hash.
+// Whether an entry has this hash, unused entries too. All are compared: a branch on the last slot
+// is often mispredicted, and mostly none has the hash.
 fn has_hash(bucket: &Bucket, hash: u32) -> bool
     ensures yes { IsTrue result
         → (k : ℕ) × (k < 7) × (slice_index bucket.now.hashes k ≡ hash) }
@@ -279,8 +279,8 @@ pub(crate) fn read_ahead(index: &Index, key: u128) -> u32
     bucket.hashes[0] ^ bucket.places[ENTRIES - 1]
 }
 
-// Puts a slot into a bucket whose next entry is free and clear, if it belongs there. Neither case
-// takes a guess of the processor: both write that entry.
+// Puts a slot into a bucket whose next entry is free and clear, if it belongs there. There is no
+// branch to mispredict: both cases write that entry.
 fn put_if(bucket: &mut Bucket, place: usize, hash: u32, belongs: bool)
     requires free { bucket.old.count < 7 }
     requires clear { IsClearAt bucket.old bucket.old.count }
@@ -293,8 +293,8 @@ fn put_if(bucket: &mut Bucket, place: usize, hash: u32, belongs: bool)
     bucket.count += belongs as u16;
 }
 
-// Divides the slots that a bucket has itself. All entries are gone through, also those where no
-// slot is: the processor often guesses wrong where the last slot is.
+// Divides the slots that a bucket has itself. It goes through unused entries too: a branch on the
+// last slot is often mispredicted.
 fn divided(bucket: &Bucket, bits: u32, chains: usize, from: usize) -> Halves
     requires bits { AreBitsFor bits chains }
     requires few { chains < 2 ^ 32 }
@@ -366,8 +366,9 @@ fn bits_for_more(bits: u32, chains: usize) -> u32
     bits
 }
 
-// Reads ahead, for every eighth chain that is divided, what `relink` will read first of the lists
-// of this one and the seven next, so that the reads of memory overlap. The answer means nothing.
+// Reads ahead, for every eighth chain that is divided (not the first eight after a doubling), what
+// `relink` will read first of the lists of this one and the seven next, so that the reads of memory
+// overlap. The answer means nothing.
 fn read_lists(index: &Index) -> u64
     requires small { index.now.bits ≤ 32 }
     requires few { index.now.len ≤ 2 ^ 33 }

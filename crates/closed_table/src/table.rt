@@ -43,7 +43,7 @@ pub struct Closed {
     index: Index,
     // Places that are made and promised.
     room: usize,
-    // What was read ahead, which nobody asks for.
+    // What was read ahead. It is never used.
     ahead: u32,
 }
 

@@ -168,7 +168,7 @@ fn puzzle<'a>(
     Ok(command)
 }
 
-// The option `--limit`. Its text says in short what is 20 digits long.
+// The option `--limit`. Its text gives the default as a power: clap would print 20 digits.
 fn limiting<'a>(alloc: Global, limit: &'a str) -> Arg<'a>
     ensures rule { rule_of result
         ≡ number_rule (codes "limit") 0 18446744073709551615 (codes "18446744073709551615") }

@@ -47,7 +47,7 @@ Report an optimal plan for each board on standard input, or that no plan exists,
 ends early, a lower bound on the cost of every plan. The pattern databases that guide the search are
 built once for all boards.";
 
-/// Examples of `solve`, its statuses, its codes, and where its formats are described.
+/// Examples of `solve`, statuses of its reports and its own, codes, and where to read on.
 pub(crate) const SOLVE_AFTER: &str = "\
 Examples:
   echo 'a 8 0 6 5 4 7 2 3 1' | tilesolve solve --rows 3 --cols 3
@@ -61,7 +61,7 @@ Status of a report:
   optimal     with a plan of least cost, whose letters move the blank: U up, L left, R right, D down
   unsolvable  no plan exists
   bounded     the search ended early, and no plan costs less than the bound
-  refused     the line is not a board, or out of memory; the fault is one of the codes below
+  refused     the line is not a board (fault E2 to E4 or E12), or out of memory (V3)
 
 Exit status:
   0  every line is optimal or unsolvable
@@ -173,7 +173,7 @@ pub(crate) const REPLAY_LONG: &str = "\
 Run the steps of workers that share the search for one board, as standard input lists them, and
 answer each step. The first line is the board. At the end, report what the workers know.";
 
-/// Examples of `replay`, its statuses, and where its formats are described.
+/// Examples of `replay`, its steps, its statuses, and where its formats are described.
 pub(crate) const REPLAY_AFTER: &str = "\
 Examples:
   printf 'a 1 0 2 3\\ngrant 0\\nexpand 0\\nannounce 0\\nrest 0\\n' |
@@ -182,7 +182,7 @@ Examples:
     tilesolve replay --rows 2 --cols 2 --workers 2 --spread blank --groups none
   printf 'c 1 0 2 3\\nhalt 0 memory\\n' | tilesolve replay --rows 2 --cols 2
 
-Steps, of worker i, and of i with j:
+Steps of worker i, or of workers i and j:
   expand i, settle i, send i j, deliver i j, draw i, announce i, grant i, rest i,
   halt i limit, halt i memory, halt i start
 
@@ -245,9 +245,7 @@ only the least value over the blank's cells. This takes less memory but
 expands more boards. Plans cost the same";
 
 /// The option `--workers`.
-pub(crate) const WORKERS: &str = "\
-Number of workers, 1 to 16: they solve lines side by side,
-or share one";
+pub(crate) const WORKERS: &str = "1 to 16 workers: they solve lines side by side, or share one";
 
 /// The option `--workers` of `replay`.
 pub(crate) const REPLAYED_WORKERS: &str = "Number of workers that share the board, 1 to 16";
@@ -270,7 +268,7 @@ Maximum number of boards that the workers expand in all, 0 or more
 
 /// The option `--cert`.
 pub(crate) const CERT: &str = "\
-Solve the first board alone: write a certificate of its plan or bound, else
+Solve only the first board: write a certificate of its plan or bound, else
 its report";
 
 /// The option `--width`.

@@ -1,7 +1,8 @@
 //! The open list: what waits to be expanded, in buckets by cost plus sum.
 //!
 //! - Contracts see an `Open` as an `OpenModel`: at each f the entries in order and the room for
-//!   more. In memory: a bucket for each f up to `GREATEST_F`, and a cursor at or below the least f.
+//!   more. In memory: a bucket for each f up to the greatest reserved, and a cursor at or below the
+//!   least f.
 //! - Only `reserve` takes memory; `put` requires a place, and an entry taken out leaves its place.
 //!   `clear` takes out all, so that the list can be used again with the memory that it has.
 //! - `take_lowest` takes the last entry of the least f below a limit; `peek_lowest` only looks, so

@@ -21,7 +21,8 @@ const PLACES_AT_ONCE: usize = 32;
 /// Entries by f, the cost of a board plus its sum. Each is a key, or whatever else identifies the
 /// board, and the cost.
 ///
-/// There is a bucket for each f, and a cursor that is never above the least f of all entries.
+/// There is a bucket for each f up to the greatest reserved, and a cursor that is never above the
+/// least f of all entries.
 #[derive(Drop)]
 pub struct Open<K> {
     buckets: Vec<Vec<(K, u32)>>,
@@ -125,7 +126,7 @@ impl<K: Copy> Open<K> {
         }
     }
 
-    /// Takes out all entries. Their places stay for others, and no place is lost.
+    /// Takes out all entries. Their places stay for others.
     pub fn clear(&mut self)
         ensures entries { (h : ℕ) → entries_at self.new h ≡ [] }
         ensures places { (h : ℕ) → places_at self.old h ≤ places_at self.new h }

@@ -5,8 +5,7 @@
 //! - `Zobrist`: the exclusive or of a word for each tile and cell (Zobrist 1970), words from
 //!   `SplitMix64`. `Abstract`: of tiles 1, 5, 9, .. alone. `ByBlank`: the blank's cell.
 //! - `owner_after` finds a successor's owner from its parent's hash, which changes by two words. By
-//!   default it asks `owner_by_key`, which finds the owner of a board by its search key, for the
-//!   successor.
+//!   default `owner_by_key` finds the owner by the successor's search key.
 //! - `worker_of` has constants for common numbers of workers, since a division by a constant is
 //!   cheap.
 //! - `offers_of` gives the successors of a board with cost, f and owner (`AreOffered`), except one

@@ -20,8 +20,8 @@ use lower_bound::Reading;
 use search_keys::KeyedBoard;
 use successor_sums::{ByMoves, find_exits};
 
-/// What a move from a board offers: a successor, by its key. (`ByMoves` has the move itself: with
-/// it here bytes would be unused, which are copied one by one.)
+/// What a move from a board offers: a successor, by its key. (`ByMoves` has the move: here it would
+/// leave padding, which is copied byte by byte.)
 #[derive(Clone, Copy, Debug)]
 pub struct Offer {
     pub key: u128,
@@ -33,7 +33,7 @@ pub struct Offer {
     pub owner: usize,
 }
 
-// What lies in memory where nothing is offered.
+// What unused places of a list of offers hold.
 const NO_OFFER: Offer = Offer {
     key: 0,
     cost: 0,

@@ -8,8 +8,8 @@
 //!   whose steps are a run. `IsPlay`, `IsEnd`: with board line and outcome. `Replays`: how a replay
 //!   ends.
 //! - The last report is that of the ending, since rows are not reported.
-//! - The laws at the end of `specs/Replays.antt` say what these give: the board that the first
-//!   asking line names is played and answered, and a failure of a stream is named.
+//! - The laws at the end of `specs/Replays.antt` say what these give: the board that the
+//!   first line that isn't passed over names is played and answered, and a failure of a stream is named.
 //! - Start with `specs/Steps.antt`, `specs/Replays.antt`, then `src/board_line.rt`,
 //!   `src/stepping.rt`.
 #![tactic(auto)]

@@ -32,8 +32,8 @@ const ROOM_AT_ONCE: usize = 64;
 /// with those for another.
 pub const BATCH: usize = 16;
 
-/// What is known of fewer boards lies in the processor's caches: to read ahead, and to take boards
-/// together, gains nothing there.
+/// With fewer known boards the lists fit the processor's caches: reading ahead, and taking boards
+/// together, gains nothing.
 pub const BOARDS_IN_CACHE: usize = 1 << 12;
 
 /// A board that was met at a cost by a last move.

@@ -24,7 +24,8 @@ const PATIENT_TURNS: u32 = 32;
 // What is added to the lead where tables are folded.
 const FOLDED_LEAD: u64 = 4;
 
-// In these rounds in a row at one f its boards are put in order again before one is expanded.
+// After this many rounds in a row at one f, and after MANY_ROUNDS, a worker sorts its boards again
+// before it expands.
 const FEW_ROUNDS: u32 = 4;
 
 const MANY_ROUNDS: u32 = 64;
@@ -81,7 +82,7 @@ impl Pace {
     }
 
     // Counts a round in which boards are expanded, and answers whether they are to be put in order
-    // again before. They were in order when the first of this f was expanded, but then others still
+    // again first. They were in order when the first of this f was expanded, but then others still
     // had boards of lower f, whose successors came since.
     fn wants_order(&mut self) -> bool {
         if self.f == NO_LEVEL {
@@ -126,7 +127,7 @@ fn lead_in(job: &Job<'_>) -> u64 {
     }
 }
 
-/// Works with a part until the book has stopped, and gives it back with the face that it had. No
+/// Works with a part until the book has stopped, and gives it back with the `SealedModel` that it had. No
 /// contract says that it works, or that the book has stopped: both are read after the joins, from
 /// the parts and the book.
 pub fn work<'a, S: Spread, C: Tokens, R: Wait, G: Gate>(
@@ -163,7 +164,7 @@ impl<'a, R: Wait, G: Gate, C: Tokens> Site<'a, R, G, C> {
     }
 
     // One round: receive, expand, and rest where there was nothing to do. Answers whether something
-    // was done; `turns` rounds before it did nothing. A worker that rests looks at its rings, shows
+    // was done; the last `turns` rounds did nothing. A worker that rests looks at its rings, shows
     // its level, and takes no lock. One that is ahead of others waits, and sends what is unsent.
     fn round<S: Spread>(&self, part: &mut Part<'_, S, C>, pace: &mut Pace, turns: u32) -> bool
         requires { IsSoundPart S.owner_of C.workers part.old }
@@ -270,7 +271,7 @@ impl<'a, R: Wait, G: Gate, C: Tokens> Site<'a, R, G, C> {
             }
             self.gate.pass(part.me, Kind::Expand);
             self.show_growth(part, known);
-            // Where a packet is found to have no room, all of an expansion's work is done in vain.
+            // An expansion that finds a packet without room has worked in vain.
             self.send_full(part);
             some = true;
         }

@@ -15,7 +15,8 @@ use std::thread::{Promise, PromisedHandle, Scope, Threads};
 use thread_parts::Sealed;
 use world_model::HaltCause;
 
-/// What is promised of a thread: it gives the part back that it was given, with the same face.
+/// What is promised of a thread: it gives the part back that it was given, with the same
+/// `SealedModel`.
 #[derive(Drop)]
 pub struct Given<'a, S: Spread, C: Tokens>(Snapshot<Sealed<'a, S, C>>);
 
@@ -24,7 +25,7 @@ impl<'a, S: Spread, C: Tokens> Promise<Sealed<'a, S, C>> for Given<'a, S, C> {
 }
 
 /// Works with each part in a thread of its own until the book has stopped, and gives the parts back
-/// in their order, with the faces that they had. Where a thread can't be started the book is halted
+/// in their order, with the `SealedModel`s that they had. Where a thread can't be started the book is halted
 /// for that, and the part comes back as it was.
 pub fn run_all<
     'a,
