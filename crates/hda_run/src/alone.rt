@@ -11,6 +11,7 @@ ghost use Rattle.outcomes.specs.declared.outcome.Cause.{Cause};
 ghost use Rattle.outcomes.specs.declared.outcome.Cause.TheVariants.{Cut, Start};
 ghost use Rattle.outcomes.specs.declared.outcome.Outcome.TheVariants.{Bounded, Unsolvable};
 ghost use Rattle.outcomes.specs.declared.outcome.Why.TheVariants.{Parity};
+ghost use Rattle.search_lists.specs.Lists.{empty_lists, HasMoreRoom};
 ghost use Rattle.world_model.specs.declared.steps.Refusal.{Refusal};
 ghost use Rattle.world_model.specs.declared.steps.Step.{Step};
 ghost use Rattle.world_model.specs.Openings.{opening};
@@ -32,9 +33,14 @@ use board::same_class;
 use memory::OutOfMemory;
 use outcomes::{Outcome, Want};
 use owners::Spread;
+use search_lists::SearchLists;
 use std::alloc::Global;
+use std::mem::replace;
 use world_ends::{Reading, WithRows};
 use world_model::{HaltCause, Refusal, Step};
+
+// The most known boards of lists whose memory is kept. It is some 64 MB.
+const KEPT_BOARDS: usize = 1 << 21;
 
 // Why the worker has no more to do.
 #[derive(Clone, Copy)]
@@ -82,6 +88,26 @@ pub fn read_one<'a, A: Reading, S: Spread, G: Gate>(
     ensures answers { IfOk result (A.answers (task_in job.entry)) }
     ensures kept { IfOk result (λ answer. EndsWholeRun (A.end answer)) }
 {
+    read_one_over::<A, S, G>(alloc, job, spread, gate, &mut SearchLists::new(alloc))
+}
+
+/// The same over lists whose memory is kept from one job to the next, so that a job asks for memory
+/// only where it needs more than those before. What the lists know is forgotten first, and no
+/// contract speaks of what they know afterwards. Where that is more than `KEPT_BOARDS` boards, they
+/// are replaced by new ones, so that a hard job doesn't keep its memory.
+pub fn read_one_over<'a, A: Reading, S: Spread, G: Gate>(
+    alloc: Global,
+    job: Job<'a>,
+    spread: &'a S,
+    gate: &G,
+    lists: &mut SearchLists,
+) -> Result<A::Answer, OutOfMemory>
+    ensures parity { (result ≡ Ok A.parity) ↔ (¬ SameClass job.entry.start job.entry.goal) }
+    ensures run { SameClass job.entry.start job.entry.goal
+        → IfOk result (IsFoundAlone A.gives S.owner_of job.entry spread.now) }
+    ensures answers { IfOk result (A.answers (task_in job.entry)) }
+    ensures kept { IfOk result (λ answer. EndsWholeRun (A.end answer)) }
+{
     A::keep_laws();
     // By this law no plan leads from a board to another class.
     plans_keep_the_class();
@@ -89,7 +115,7 @@ pub fn read_one<'a, A: Reading, S: Spread, G: Gate>(
     if are_apart(&job) {
         return Ok(A::of_parity());
     }
-    search_one::<A, S, G>(alloc, job, spread, gate)
+    search_over::<A, S, G>(alloc, job, spread, gate, lists)
 }
 
 /// The same by a search, whatever the class of the start.
@@ -103,13 +129,47 @@ pub fn search_one<'a, A: Reading, S: Spread, G: Gate>(
     ensures answers { IfOk result (A.answers (task_in job.entry)) }
     ensures kept { IfOk result (λ answer. EndsWholeRun (A.end answer)) }
 {
+    search_over::<A, S, G>(alloc, job, spread, gate, &mut SearchLists::new(alloc))
+}
+
+// The same over lists whose memory is kept.
+fn search_over<'a, A: Reading, S: Spread, G: Gate>(
+    alloc: Global,
+    job: Job<'a>,
+    spread: &'a S,
+    gate: &G,
+    lists: &mut SearchLists,
+) -> Result<A::Answer, OutOfMemory>
+    ensures run { IfOk result (IsFoundAlone A.gives S.owner_of job.entry spread.now) }
+    ensures answers { IfOk result (A.answers (task_in job.entry)) }
+    ensures kept { IfOk result (λ answer. EndsWholeRun (A.end answer)) }
+{
     A::keep_laws();
     let _ = job.goal();
-    let opened = World::open(alloc, job, 1, spread)?;
+    let empty = take_empty(alloc, lists);
+    let opened = World::open(alloc, job, 1, spread, empty)?;
     let world = run_alone(alloc, opened, gate);
     // This call gives what each world keeps.
     let _ = world.workers();
-    Ok(world.read::<A>(alloc))
+    let answer = world.read_into::<A>(alloc, lists);
+    drop_large(alloc, lists);
+    Ok(answer)
+}
+
+// Takes lists out of their place, where new ones are left, and forgets what they know.
+fn take_empty(alloc: Global, lists: &mut SearchLists) -> SearchLists
+    ensures { HasMoreRoom empty_lists result }
+{
+    let mut taken = replace(lists, SearchLists::new(alloc));
+    taken.clear();
+    taken
+}
+
+// Replaces lists by new ones where they know more than `KEPT_BOARDS` boards.
+fn drop_large(alloc: Global, lists: &mut SearchLists) {
+    if lists.len() > KEPT_BOARDS {
+        *lists = SearchLists::new(alloc);
+    }
 }
 
 /// Whether the start isn't in the goal's class.

@@ -19,8 +19,9 @@ use lower_bound::Bound;
 use message_ledger::Plain;
 use outcomes::Outcome;
 use owners::Spread;
+use search_lists::SearchLists;
 use std::alloc::Global;
-use worker_core::Queue;
+use worker_core::{Queue, Worker};
 use world_ends::{Asked, Reading, Snapshot, WithRows, lowest_of, read};
 use world_model::laws::quiet_is_true;
 
@@ -41,16 +42,28 @@ impl<'a, S: Spread> World<'a, S> {
         ensures given { A.gives (world_of S.owner_of self.entry) result }
         ensures answers { A.answers (task_in self.entry.job) result }
     {
+        self.read_into::<A>(alloc, &mut SearchLists::new(alloc))
+    }
+
+    // The same. The lists of its last worker are handed out, so that their memory is kept.
+    pub(crate) fn read_into<A: Reading>(self, alloc: Global, lists: &mut SearchLists) -> A::Answer
+        ensures given { A.gives (world_of S.owner_of self.entry) result }
+        ensures answers { A.answers (task_in self.entry.job) result }
+    {
         A::keep_laws();
         quiet_is_true();
         // By this call the sums are known to be lower bounds.
         let _ = self.parts.job.bound();
-        read_parts::<A, S>(alloc, self.parts)
+        read_parts::<A, S>(alloc, self.parts, lists)
     }
 }
 
-// What the parts of a world give.
-fn read_parts<A: Reading, S: Spread>(alloc: Global, parts: Parts<'_, S>) -> A::Answer
+// What the parts of a world give. The lists of its last worker are handed out.
+fn read_parts<A: Reading, S: Spread>(
+    alloc: Global,
+    parts: Parts<'_, S>,
+    lists: &mut SearchLists,
+) -> A::Answer
     requires { IsLawful S.owner_of parts }
     ensures { A.gives (world_of S.owner_of parts.entry) result }
 {
@@ -67,7 +80,17 @@ fn read_parts<A: Reading, S: Spread>(alloc: Global, parts: Parts<'_, S>) -> A::A
         stop: book.stop(),
     };
     let asked = asked_in(&job);
-    read::<A, Plain, S>(alloc, &asked, owners, &mut workers, snapshot)
+    let answer = read::<A, Plain, S>(alloc, &asked, owners, &mut workers, snapshot);
+    hand_out(workers, lists);
+    answer
+}
+
+// Puts the lists of the last worker in the place of others.
+fn hand_out(workers: Vec<Worker<Plain>>, lists: &mut SearchLists) {
+    let mut workers = workers;
+    if let Some(last) = workers.pop() {
+        *lists = last.into_lists();
+    }
 }
 
 /// What a job asks.

@@ -4,8 +4,8 @@
 //! - A `Job` is seen as a `JobModel`; its type keeps that shapes agree and tables are potentials,
 //!   so sums are lower bounds. A `World` keeps shaped, sound, credited and guided.
 //! - `World::new`, `step`, `run_steps`, `finish` for replays, `read` in each reading; `solve_one`
-//!   and `read_one` for one worker, `search_one` compares no classes. `run_and_finish` states the
-//!   main theorem.
+//!   and `read_one` for one worker, `search_one` compares no classes. `read_one_over` keeps memory
+//!   from one job to the next. `run_and_finish` states the main theorem.
 //! - `Gate` is called after each accepted step, while no lock is held; `Free` does nothing. A bound
 //!   is shown where one is wanted (`is_wanted`), and is that of the world that is handed over
 //!   (`IsBoundSoFar`).
@@ -29,7 +29,7 @@ mod parts;
 mod runs;
 mod world;
 
-pub use alone::{are_apart, read_one, search_one, solve_one};
+pub use alone::{are_apart, read_one, read_one_over, search_one, solve_one};
 pub use faults::{JobFault, WorldFault};
 pub use finish::asked_in;
 pub use gates::{Free, Gate, Kind, kind_of};

@@ -4,6 +4,7 @@ ghost use Rattle.std.specs.Prelude.{◌≡◌, ◌≤◌, ◌<◌, [], All, IfOk
 ghost use Rattle.std.specs.Prelude.{slice_set};
 ghost use Rattle.board.specs.declared.moves.Move.{Move};
 ghost use Rattle.outcomes.specs.Outcomes.{Task};
+ghost use Rattle.search_lists.specs.Lists.{empty_lists, HasMoreRoom};
 ghost use Rattle.search_lists.specs.Orders.{Guide};
 ghost use Rattle.worker_core.specs.Contexts.{task_from};
 ghost use Rattle.worker_core.specs.Roles.{IsGuideOf, IsGuided, guide_of};
@@ -22,20 +23,24 @@ use message_ledger::{Allowance, Credit, Grants, Plain, Purse};
 use owners::Spread;
 use quiescence::Book;
 use search_keys::KeyedBoard;
+use search_lists::SearchLists;
 use std::alloc::Global;
 use worker_core::laws::tasks_have_guides;
 use worker_core::{Context, Queue, Worker};
 use world_model::Item;
 
-/// The parts of the opening world of a job.
+/// The parts of the opening world of a job. The start's owner has these lists, which know nothing,
+/// and each other worker has new ones.
 pub(crate) fn open_parts<'a, S: Spread>(
     alloc: Global,
     job: Job<'a>,
     workers: usize,
     owners: &'a S,
+    lists: SearchLists,
 ) -> Result<Parts<'a, S>, OutOfMemory>
     requires some { 0 < workers }
     requires few { workers ≤ WORKER_LIMIT }
+    requires empty { HasMoreRoom empty_lists lists }
     ensures opening { IfOk result (λ parts. (via : Move)
         × (world_of S.owner_of parts ≡ opening (job_of S.owner_of job.entry owners.now workers) via)) }
     ensures guided { IfOk result (λ parts. AreGuided parts) }
@@ -47,7 +52,7 @@ pub(crate) fn open_parts<'a, S: Spread>(
     let (mut credit, purse) = Credit::plain();
     let owner = owners.owner(job.start(), workers);
     let context = job.context(owner, workers, owners);
-    let first = first_worker(alloc, &context, job.start(), purse)?;
+    let first = first_worker(alloc, &context, job.start(), purse, lists)?;
     let all = workers_with(alloc, workers, &mut credit, first, owner)?;
     let lanes = empty_lanes(alloc, workers)?;
     let book = Book::new(credit, Grants::plain(), job.limit(), workers);
@@ -110,14 +115,16 @@ fn idle_workers(
     Ok(made)
 }
 
-// A worker that knows the start, and has the purse.
+// A worker that knows the start, and has the purse. Before, its lists know nothing.
 fn first_worker<S: Spread>(
     alloc: Global,
     context: &Context<'_, S>,
     start: &Board,
     purse: Purse<Plain>,
+    lists: SearchLists,
 ) -> Result<Worker<Plain>, OutOfMemory>
     requires few { context.now.workers ≤ WORKER_LIMIT }
+    requires empty { HasMoreRoom empty_lists lists }
     requires sides { start.now.grid ≡ context.now.goal.grid }
     requires one { purse ≡ 1 }
     ensures state { IfOk result (λ worker. (via : Move)
@@ -128,7 +135,7 @@ fn first_worker<S: Spread>(
 {
     tasks_have_guides();
     let _ = context.goal.shape();
-    let mut worker = Worker::new(alloc, context.workers, purse, Allowance::plain())?;
+    let mut worker = Worker::with_lists(alloc, context.workers, purse, Allowance::plain(), lists)?;
     let item = Item {
         board: KeyedBoard::new(start),
         cost: 0,

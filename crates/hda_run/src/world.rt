@@ -11,6 +11,7 @@ ghost use Rattle.world_model.specs.Soundness.{IsSound};
 ghost use Rattle.world_model.specs.Steps.{Next};
 ghost use Rattle.world_model.specs.Turns.{turn, refusal_in};
 ghost use Rattle.world_model.specs.Worlds.{IsLane};
+ghost use Rattle.search_lists.specs.Lists.{empty_lists, HasMoreRoom};
 ghost use Rattle.hda_run.specs.Jobs.{task_in};
 ghost use Rattle.hda_run.specs.Worlds.{world_of, job_of, AreGuided, IsWorkerCount};
 
@@ -22,6 +23,7 @@ use memory::OutOfMemory;
 use message_ledger::Plain;
 use owners::Spread;
 use quiescence::Book;
+use search_lists::SearchLists;
 use std::alloc::Global;
 use std::marker::Model;
 use worker_core::{Ahead, Queue, Worker};
@@ -74,20 +76,23 @@ impl<'a, S: Spread> World<'a, S> {
         if !is_worker_count(workers) {
             return Err(WorldFault::WorkerCount);
         }
-        match World::open(alloc, job, workers, spread) {
+        match World::open(alloc, job, workers, spread, SearchLists::new(alloc)) {
             Ok(world) => Ok(world),
             Err(refused) => Err(WorldFault::Memory(refused)),
         }
     }
 
-    // The opening world of a job, with as many workers as there may be.
+    // The opening world of a job, with as many workers as there may be. The start's owner has these
+    // lists, which know nothing: their memory may be that of a search before.
     pub(crate) fn open(
         alloc: Global,
         job: Job<'a>,
         workers: usize,
         spread: &'a S,
+        lists: SearchLists,
     ) -> Result<Self, OutOfMemory>
-        requires { IsWorkerCount workers }
+        requires count { IsWorkerCount workers }
+        requires empty { HasMoreRoom empty_lists lists }
         ensures opening { IfOk result (λ world. (via : Move)
             × (world_of S.owner_of world ≡ opening (job_of S.owner_of job.entry spread.now workers) via)) }
         ensures job { IfOk result (λ world. world.job ≡ job.entry) }
@@ -95,7 +100,7 @@ impl<'a, S: Spread> World<'a, S> {
     {
         openings_are_sound();
         let _ = job.goal();
-        let parts = open_parts(alloc, job, workers, spread)?;
+        let parts = open_parts(alloc, job, workers, spread, lists)?;
         let ahead = Ahead::new::<S>(alloc);
         Ok(World { parts, ahead })
     }

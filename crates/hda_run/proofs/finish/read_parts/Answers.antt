@@ -15,8 +15,8 @@ pub lowest_in_lanes-requires : goal.lowest_in_lanes-requires
 lowest_in_lanes-requires g c =
     items_in_lanes (world_of g.S.Spread.owner_of c.args.parts) c.deref.result.now c.bound.result.now.split.grid c.requires.shaped (ap lanes_in c.deref.ensures.value) c.bound.ensures.sides
 
-pub read-requires-after_bounds : goal.read-requires-after_bounds
-read-requires-after_bounds g c κs within =
+pub read-answer-requires-after_bounds : goal.read-answer-requires-after_bounds
+read-answer-requires-after_bounds g c κs within =
     let p = c.args.parts.job in
     let asked = c.asked_in-asked in
     let same = same_task p asked.result.start asked.result.goal asked.result.weights asked.result.bound.now asked.ensures.start asked.ensures.goal asked.ensures.weights asked.ensures.bound in
@@ -34,7 +34,7 @@ returns g c =
     let w = world_of g.S.Spread.owner_of c.args.parts in
     let asked = c.asked_in-asked in
     let same = same_task p asked.result.start asked.result.goal asked.result.weights asked.result.bound.now asked.ensures.start asked.ensures.goal asked.ensures.weights asked.ensures.bound in
-    c.read.ensures.given w (record {
+    c.read-answer.ensures.given w (record {
       parts = has_parts g.S.Spread.owner_of c.args.parts _ c.deref_mut.result.now same c.deref_mut.ensures.value c.requires;
       lanes = lowest_is w c.deref.result.now (sum_of (parts_of c.bound.result.now)) c.lowest_in_lanes.result (ap lanes_in c.deref.ensures.value) (ap (λ (tables : BoundModel). sum_of (parts_of tables)) c.bound.ensures.value) c.lowest_in_lanes.ensures;
       stop = sym c.stop.ensures.value;

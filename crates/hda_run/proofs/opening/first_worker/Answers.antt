@@ -16,7 +16,7 @@ returns-clause-state g c =
     let worker = c.in_ok-worker.worker in
     let count : n ≡ c.args.context.now.workers = ap (λ (x : ContextModel g.row.S.Denot). x.workers) c.context.view_is in
     let begun = begins n c.args.purse 1 c.plain.result (state_of worker) c.requires.one c.plain.ensures c.in_ok-worker.ensures.state in
-    (U, first_is n task (state_of worker) (state_of c.meet.new.self) (record { board = c.new-2.result; cost = 0; via = U }) refl c.new-2.ensures begun c.in_ok-meet.ensures.ok ∙ ap (λ (k : ℕ). first_worker k task U) count)
+    (U, first_is n task (state_of worker) (state_of c.meet.new.self) (record { board = c.new.result; cost = 0; via = U }) refl c.new.ensures begun c.in_ok-meet.ensures.ok ∙ ap (λ (k : ℕ). first_worker k task U) count)
 
 pub returns-clause-guided : goal.returns-clause-guided
 returns-clause-guided g c =

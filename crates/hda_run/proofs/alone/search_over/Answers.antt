@@ -4,7 +4,7 @@ use Rattle.hda_run.specs.Alone.{IsRunAlone}
 use Rattle.hda_run.specs.Worlds.{world_of, job_of}
 use Rattle.hda_run.proofs.LawLemmas.{found_whole}
 use Rattle.hda_run.proofs.PartsLemmas.{is_job}
-use Rattle.hda_run.proofs.alone.search_one.Goals as goal
+use Rattle.hda_run.proofs.alone.search_over.Goals as goal
 
 pub returns-clause-kept : goal.returns-clause-kept
 returns-clause-kept g c =
@@ -14,4 +14,4 @@ returns-clause-kept g c =
     let opened = c.in_ok-opened.ensures in
     let run = subst (λ (job : Job). IsRunAlone job w) (λ t. job_of owner_of (opened.job t) (opened.owners t) 1) c.run_alone-world.ensures.run in
     let known = c.workers.ensures in
-    found_whole (job_of owner_of c.args.job c.args.spread.now 1) w is run known.shaped known.sound known.bounded (g.A.Reading.end c.read.result) (c.keep_laws.ensures.bounds w c.read.result c.read.ensures.given)
+    found_whole (job_of owner_of c.args.job c.args.spread.now 1) w is run known.shaped known.sound known.bounded (g.A.Reading.end c.read_into-answer.result) (c.keep_laws.ensures.bounds w c.read_into-answer.result c.read_into-answer.ensures.given)

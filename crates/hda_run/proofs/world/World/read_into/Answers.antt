@@ -2,7 +2,7 @@ use Rattle.std.proofs.Common.{subst}
 use Rattle.hda_run.specs.declared.parts.Parts.{Parts}
 use Rattle.hda_run.specs.Jobs.{task_in}
 use Rattle.hda_run.specs.Worlds.{world_of}
-use Rattle.hda_run.proofs.world.World.read.Goals as goal
+use Rattle.hda_run.proofs.world.World.read_into.Goals as goal
 
 pub returns-clause-given : goal.returns-clause-given
 returns-clause-given g c = subst (λ (parts : Parts g.row.S.Denot). g.A.Reading.gives (world_of g.S.Spread.owner_of parts) c.read_parts.result) c.self.view_is c.read_parts.ensures
