@@ -113,6 +113,13 @@ searched_by_one gives answers end parity setup start limit owner_of are owners a
       kept = kept;
     }
 
+-- so is what it finds within the setup's limit
+pub searched_alone : {X : Type 0} (gives : WorldState → X → Type 0) (answers : Task → X → Type 0) (end : X → Ending) (parity : X) (setup : SetupModel) (start : BoardModel) {S : Type 0} (owner_of : S → ℕ → BoardModel → ℕ) → AreWorkers owner_of → (owners : S) (result : Result X OutOfMemory) → (result ≡ Ok parity) ↔ (¬ SameClass start setup.goal) → (SameClass start setup.goal → IfOk result (IsFoundAlone gives owner_of (problem_of setup start) owners)) → IfOk result (answers (task_of_setup setup start)) → IfOk result (λ answer. EndsWholeRun (end answer)) → IsSearched gives answers end parity setup start result
+searched_alone gives answers end parity setup start owner_of are owners (Ok answer) at_parity run answered kept =
+    searched_by_one gives answers end parity setup start setup.limit owner_of are owners answer (omega arith) (inl refl) at_parity run answered kept
+searched_alone gives answers end parity setup start owner_of are owners (Err refused) at_parity run answered kept =
+    record { at_parity = at_parity; run = run; answered = answered; kept = kept }
+
 -- the value of a result that has one
 abbrev value_or : {X : Type 0} → X → Result X OutOfMemory → X
 value_or other (Ok answer) = answer

@@ -16,10 +16,11 @@ use batch_lines::{LineKind, LineReader, read_entry};
 use batch_runs::{Setup, Solved};
 use board::{Board, Shape};
 use byte_streams::ByteSource;
-use hda_run::read_one;
+use hda_run::read_one_over;
 use memory::{OutOfMemory, push};
 use outcomes::{Cause, Ending, Want};
 use owners::{ByBlank, Spread};
+use search_lists::SearchLists;
 use std::alloc::Global;
 use std::sync::{Mutex, Wait};
 use std::thread::{Threads, for_each_mut};
@@ -218,17 +219,19 @@ fn try_boards<R: Threads + Wait + Sync, W: Watch + Sync>(
     );
 }
 
-// Tries one board after the other, and adds it to a lane, until enough boards were expanded.
+// Tries one board after the other, and adds it to a lane, until enough boards were expanded. The
+// memory of the thread's lists is kept from one board to the next.
 fn try_in_turn<R: Wait, W: Watch>(shared: &Shared<'_, R, W>, lane: &mut Vec<Tried>)
     requires { AreTried shared.now.setup.now lane.old }
     ensures { AreTried shared.now.setup.now lane.new }
 {
+    let mut lists = SearchLists::new(shared.alloc);
     let mut expanded = 0u64;
     'boards: for _ in 0..shared.boards.len() {
         if expanded >= ENOUGH_EXPANDED {
             return;
         }
-        let Some(tried) = try_next(shared) else {
+        let Some(tried) = try_next(shared, &mut lists) else {
             return;
         };
         expanded = expanded.saturating_add(expansions_of(&tried));
@@ -240,7 +243,7 @@ fn try_in_turn<R: Wait, W: Watch>(shared: &Shared<'_, R, W>, lane: &mut Vec<Trie
 
 // Tries the first board that no thread has taken, if there is one. Where memory is refused no
 // thread takes another one.
-fn try_next<R: Wait, W: Watch>(shared: &Shared<'_, R, W>) -> Option<Tried>
+fn try_next<R: Wait, W: Watch>(shared: &Shared<'_, R, W>, lists: &mut SearchLists) -> Option<Tried>
     ensures { IfSome result (IsTried shared.now.setup.now) }
 {
     let place = take_next(shared.rt, &shared.next);
@@ -252,7 +255,7 @@ fn try_next<R: Wait, W: Watch>(shared: &Shared<'_, R, W>) -> Option<Tried>
         setup: shared.setup,
         start: &board,
     };
-    match end_alone(shared.alloc, &question, &ByBlank, shared.watch) {
+    match end_alone(shared.alloc, &question, &ByBlank, shared.watch, lists) {
         Ok(solved) => Some(Tried {
             place,
             board,
@@ -293,6 +296,7 @@ fn end_alone<S: Spread, W: Watch>(
     question: &Question<'_>,
     spread: &S,
     watch: &W,
+    lists: &mut SearchLists,
 ) -> Result<Solved, Left>
     requires { 2 ≤ question.now.setup.now.workers }
     ensures ok { IfOk result (λ solved.
@@ -307,7 +311,7 @@ fn end_alone<S: Spread, W: Watch>(
     let begun = watch.microseconds();
     let limit = question.setup.expansion_limit().min(ENOUGH_EXPANDED);
     let job = job_within(question, limit);
-    let found = match read_one::<WithFigures, S, W>(alloc, job, spread, watch) {
+    let found = match read_one_over::<WithFigures, S, W>(alloc, job, spread, watch, lists) {
         Ok(found) => found,
         Err(refused) => return Err(Left::NoMemory(refused)),
     };

@@ -15,8 +15,9 @@ use board::{Board, Shape};
 use byte_streams::{Sink, Source};
 use hda_run::Gate;
 use memory::OutOfMemory;
+use search_lists::SearchLists;
 use std::alloc::Global;
-use std::sync::Wait;
+use std::sync::{Mutex, Wait};
 use std::thread::Threads;
 
 // A setup, the closures by which its workers answer boards, and who watches them: threads start
@@ -133,11 +134,16 @@ pub fn run_watched<R: Threads + Wait + Sync, S: Source, K: Sink, W: Watch + Sync
         (λ id b solved. HasStats setup.now b solved × W.has_taken watch.now id solved.stats)
         (S.state source.old).left (change K.state sink.old sink.new) }
 {
+    // The memory of these lists is kept from line to line.
+    let kept = Mutex::new(SearchLists::new(alloc));
     let solve = |start: &Board| -> Result<Solved, OutOfMemory>
         requires { start.now.grid ≡ setup.now.goal.grid }
         ensures { MayGive (rules_of setup.entry.now) start.now result
             × IfOk result (HasStats setup.entry.now start.now) }
-    { solve_board(rt, alloc, &Question { setup, start }, watch) };
+    {
+        let question = Question { setup, start };
+        solve_board(rt, alloc, &question, watch, &mut kept.lock(rt))
+    };
     let ahead = |start: &Board, held: &[u8]| -> Vec<(Board, Option<Solved>)>
         requires { start.now.grid ≡ setup.now.goal.grid }
         ensures { AreAllowed (rules_of setup.entry.now) result.items

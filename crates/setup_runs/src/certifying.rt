@@ -16,6 +16,7 @@ use certificate_runs::{CertifyFault, ProofRuled, Prover, certify_first};
 use hda_run::Gate;
 use memory::OutOfMemory;
 use outcomes::Outcome;
+use search_lists::SearchLists;
 use std::alloc::Global;
 use std::sync::Wait;
 use std::thread::Threads;
@@ -90,7 +91,10 @@ pub fn run_cert<R: Threads + Wait + Sync, S: Source, K: Sink, G: Gate + Sync>(
     let prove = |start: &Board| -> Result<Outcome, OutOfMemory>
         requires { start.now.grid ≡ setup.now.goal.grid }
         ensures { MayProve (certifying_rules_of setup.entry.now) start.now result }
-    { answer_board::<WithRows, R, G>(rt, alloc, &Question { setup, start }, gate) };
+    {
+        let mut lists = SearchLists::new(alloc);
+        answer_board::<WithRows, R, G>(rt, alloc, &Question { setup, start }, gate, &mut lists)
+    };
     let proving = Proving { setup, prove };
     certify_first(alloc, source, sink, &proving)
 }

@@ -10,10 +10,11 @@ ghost use Rattle.setup_runs.specs.Solving.{IsSearched, IsNoBound, AreStatsOf, Ha
 use crate::watching::Watch;
 use batch_runs::{Setup, Solved, SpreadKind, Stats};
 use board::Board;
-use hda_run::{Gate, Job, read_one};
+use hda_run::{Gate, Job, read_one_over};
 use memory::OutOfMemory;
 use outcomes::{Ending, Outcome};
 use owners::{Abstract, ByBlank, Spread, Zobrist};
+use search_lists::SearchLists;
 use std::alloc::Global;
 use std::sync::Wait;
 use std::thread::Threads;
@@ -59,19 +60,20 @@ pub(crate) struct Question<'a> {
     pub(crate) ghost sides: { start.now.grid ≡ setup.now.goal.grid },
 }
 
-/// The ending of a board by the setup's workers, with the figures of their search. The error: out
-/// of memory before the first step.
+/// The ending of a board by the setup's workers, with the figures of their search. The memory of the
+/// lists is kept from one board to the next. The error: out of memory before the first step.
 pub(crate) fn solve_board<R: Threads + Wait + Sync, W: Watch + Sync>(
     rt: &R,
     alloc: Global,
     question: &Question<'_>,
     watch: &W,
+    lists: &mut SearchLists,
 ) -> Result<Solved, OutOfMemory>
     ensures allowed { MayGive (rules_of question.now.setup.now) question.now.start.now result }
     ensures stats { IfOk result (HasStats question.now.setup.now question.now.start.now) }
 {
     let begun = watch.microseconds();
-    match answer_board::<WithFigures, R, W>(rt, alloc, question, watch) {
+    match answer_board::<WithFigures, R, W>(rt, alloc, question, watch, lists) {
         Ok(found) => Ok(solved_since(begun, question, found, watch)),
         Err(refused) => Err(refused),
     }
@@ -108,26 +110,42 @@ fn narrowed(count: u128) -> u64
 }
 
 /// The answer of a board by the setup's workers, in a reading: an easy one by one worker in the
-/// calling thread, any other one by all of them, several in threads of their own. The error: out of
-/// memory before the first step.
+/// calling thread, over these lists, any other one by all of them, several in threads of their own.
+/// The error: out of memory before the first step.
 pub(crate) fn answer_board<A: TellsBounds, R: Threads + Wait + Sync, G: Gate + Sync>(
     rt: &R,
     alloc: Global,
     question: &Question<'_>,
     gate: &G,
+    lists: &mut SearchLists,
 ) -> Result<A::Answer, OutOfMemory>
     ensures { IsSearched A.gives A.answers A.end A.parity question.now.setup.now
         question.now.start.now result }
 {
-    let setup = question.setup;
-    // One worker owns all boards, whatever they are spread by.
-    if setup.worker_count() == 1 {
-        return answer_spread::<A, R, ByBlank, G>(rt, alloc, question, &ByBlank, gate);
+    if question.setup.worker_count() == 1 {
+        return answer_alone::<A, ByBlank, G>(alloc, question, &ByBlank, gate, lists);
     }
-    if let Some(answer) = answer_easy::<A, ByBlank, G>(alloc, question, &ByBlank, gate) {
+    if let Some(answer) = answer_easy::<A, ByBlank, G>(alloc, question, &ByBlank, gate, lists) {
         return Ok(answer);
     }
     answer_shared::<A, R, G>(rt, alloc, question, gate)
+}
+
+// The answer of a board by the setup's only worker, which owns all boards, whatever they are spread
+// by.
+fn answer_alone<A: Reading, S: Spread, G: Gate>(
+    alloc: Global,
+    question: &Question<'_>,
+    spread: &S,
+    gate: &G,
+    lists: &mut SearchLists,
+) -> Result<A::Answer, OutOfMemory>
+    requires { question.now.setup.now.workers ≡ 1 }
+    ensures { IsSearched A.gives A.answers A.end A.parity question.now.setup.now
+        question.now.start.now result }
+{
+    let job = job_for(question);
+    read_one_over::<A, S, G>(alloc, job, spread, gate, lists)
 }
 
 // The answer of a board that all workers share, by the setup's spread. (It is never inlined: its
@@ -178,6 +196,7 @@ fn answer_easy<A: TellsBounds, S: Spread, G: Gate>(
     question: &Question<'_>,
     spread: &S,
     gate: &G,
+    lists: &mut SearchLists,
 ) -> Option<A::Answer>
     requires { 2 ≤ question.now.setup.now.workers }
     ensures { IfSome result (λ answer. IsSearched A.gives A.answers A.end A.parity
@@ -186,7 +205,7 @@ fn answer_easy<A: TellsBounds, S: Spread, G: Gate>(
     let whole = question.setup.expansion_limit();
     let limit = easy_limit(whole);
     let job = job_within(question, limit);
-    let Ok(answer) = read_one::<A, S, G>(alloc, job, spread, gate) else {
+    let Ok(answer) = read_one_over::<A, S, G>(alloc, job, spread, gate, lists) else {
         return None;
     };
     if limit == whole {
