@@ -39,8 +39,9 @@ use std::mem::replace;
 use world_ends::{Reading, WithRows};
 use world_model::{HaltCause, Refusal, Step};
 
-// The most known boards of lists whose memory is kept. It is some 64 MB.
-const KEPT_BOARDS: usize = 1 << 21;
+// The most known boards of lists whose memory is kept. They take some 12 MB, and at each f the open
+// list keeps the room of the job that needed most there.
+const KEPT_BOARDS: usize = 1 << 18;
 
 // Why the worker has no more to do.
 #[derive(Clone, Copy)]
