@@ -104,20 +104,20 @@ module _ {X : Type 0} (gives : WorldState → X → Type 0) (setup : SetupModel)
     found_so end (Err refused) found = found
 
 -- what one of the setup's workers finds within a limit is what a search may answer
-pub searched_by_one : {X : Type 0} (gives : WorldState → X → Type 0) (answers : Task → X → Type 0) (end : X → Ending) (parity : X) (setup : SetupModel) (start : BoardModel) (limit : ℕ) {S : Type 0} (owner_of : S → ℕ → BoardModel → ℕ) → AreWorkers owner_of → (owners : S) (answer : X) → limit ≤ setup.limit → (limit ≡ setup.limit) ⊎ ((2 ≤ setup.workers) × IsNoBound (end answer)) → (◌≡◌ {A = Result X OutOfMemory} (Ok answer) (Ok parity)) ↔ (¬ SameClass start setup.goal) → (SameClass start setup.goal → IsFoundAlone gives owner_of (problem_within limit setup start) owners answer) → answers (task_of_setup setup start) answer → EndsWholeRun (end answer) → IsSearched gives answers end parity setup start (Ok answer)
-searched_by_one gives answers end parity setup start limit owner_of are owners answer within whole at_parity run answered kept =
+pub searched_by_one : {X : Type 0} (gives : WorldState → X → Type 0) (answers : Task → X → Type 0) (end : X → Ending) (parity : X) (setup : SetupModel) (start : BoardModel) (limit : ℕ) {S : Type 0} (owner_of : S → ℕ → BoardModel → ℕ) → AreWorkers owner_of → (owners : S) (answer : X) → limit ≤ setup.limit → (2 ≤ setup.workers → limit ≤ ENOUGH_EXPANDED) → (limit ≡ setup.limit) ⊎ ((2 ≤ setup.workers) × IsNoBound (end answer)) → (◌≡◌ {A = Result X OutOfMemory} (Ok answer) (Ok parity)) ↔ (¬ SameClass start setup.goal) → (SameClass start setup.goal → IsFoundAlone gives owner_of (problem_within limit setup start) owners answer) → answers (task_of_setup setup start) answer → EndsWholeRun (end answer) → IsSearched gives answers end parity setup start (Ok answer)
+searched_by_one gives answers end parity setup start limit owner_of are owners answer within few whole at_parity run answered kept =
     record {
       at_parity = at_parity;
-      run = λ together. inr (limit, record { run = alone_any gives setup start limit owner_of are owners owner_by setup_owners setup.spread answer (run together); within = within; whole = whole });
+      run = λ together. inr (limit, record { run = alone_any gives setup start limit owner_of are owners owner_by setup_owners setup.spread answer (run together); within = within; few = few; whole = whole });
       answered = answered;
       kept = kept;
     }
 
--- so is what it finds within the setup's limit
-pub searched_alone : {X : Type 0} (gives : WorldState → X → Type 0) (answers : Task → X → Type 0) (end : X → Ending) (parity : X) (setup : SetupModel) (start : BoardModel) {S : Type 0} (owner_of : S → ℕ → BoardModel → ℕ) → AreWorkers owner_of → (owners : S) (result : Result X OutOfMemory) → (result ≡ Ok parity) ↔ (¬ SameClass start setup.goal) → (SameClass start setup.goal → IfOk result (IsFoundAlone gives owner_of (problem_of setup start) owners)) → IfOk result (answers (task_of_setup setup start)) → IfOk result (λ answer. EndsWholeRun (end answer)) → IsSearched gives answers end parity setup start result
-searched_alone gives answers end parity setup start owner_of are owners (Ok answer) at_parity run answered kept =
-    searched_by_one gives answers end parity setup start setup.limit owner_of are owners answer (omega arith) (inl refl) at_parity run answered kept
-searched_alone gives answers end parity setup start owner_of are owners (Err refused) at_parity run answered kept =
+-- so is what the only one finds within the setup's limit
+pub searched_alone : {X : Type 0} (gives : WorldState → X → Type 0) (answers : Task → X → Type 0) (end : X → Ending) (parity : X) (setup : SetupModel) (start : BoardModel) {S : Type 0} (owner_of : S → ℕ → BoardModel → ℕ) → AreWorkers owner_of → (owners : S) (result : Result X OutOfMemory) → setup.workers ≡ 1 → (result ≡ Ok parity) ↔ (¬ SameClass start setup.goal) → (SameClass start setup.goal → IfOk result (IsFoundAlone gives owner_of (problem_of setup start) owners)) → IfOk result (answers (task_of_setup setup start)) → IfOk result (λ answer. EndsWholeRun (end answer)) → IsSearched gives answers end parity setup start result
+searched_alone gives answers end parity setup start owner_of are owners (Ok answer) one at_parity run answered kept =
+    searched_by_one gives answers end parity setup start setup.limit owner_of are owners answer (omega arith) (λ several. omega (arith, one, several)) (inl refl) at_parity run answered kept
+searched_alone gives answers end parity setup start owner_of are owners (Err refused) one at_parity run answered kept =
     record { at_parity = at_parity; run = run; answered = answered; kept = kept }
 
 -- the value of a result that has one
@@ -168,7 +168,7 @@ module _ (setup : SetupModel) (start : BoardModel) where
   found_ending : (found : EndingWithFigures) → IsFound EndsWithFigures (λ it. it.ending) setup start found → IsFound EndsIn (λ it. it) setup start found.ending
   found_ending found (inl (inl (several, (w, joined, (kept, gives))))) = inl (inl (several, (w, joined, (kept, gives.0))))
   found_ending found (inl (inr (run, left))) = inl (inr (alone_ending setup.limit found run, left))
-  found_ending found (inr (limit, it)) = inr (limit, record { run = alone_ending limit found it.run; within = it.within; whole = it.whole })
+  found_ending found (inr (limit, it)) = inr (limit, record { run = alone_ending limit found it.run; within = it.within; few = it.few; whole = it.whole })
 
   -- what the setup's workers find of a board, with figures, is what its rules allow
   pub may_solve : (figures : Figures) (found : Result EndingWithFigures OutOfMemory) → (¬ SameClass start setup.goal → found ≡ Ok (record { ending = Unsolvable Parity; figures = figures })) → (SameClass start setup.goal → IfOk found (IsFound EndsWithFigures (λ it. it.ending) setup start)) → IfOk found (λ it. EndAnswers (task_of_setup setup start) it.ending) → IfOk found (λ it. EndsWholeRun it.ending) → Gives EndAnswers (IsOfRun setup start) (Unsolvable Parity) setup start (ending_of found)
@@ -178,15 +178,15 @@ module _ (setup : SetupModel) (start : BoardModel) where
       gives_so EndAnswers (IsOfRun setup start) (Unsolvable Parity) setup start (Err refused) (λ other. ap ending_of (by_parity other)) (λ together. run together) answered
 
   -- so is what one of them ends, within a limit
-  pub may_end : (limit : ℕ) {S : Type 0} (owner_of : S → ℕ → BoardModel → ℕ) → AreWorkers owner_of → (owners : S) (figures : Figures) (found : EndingWithFigures) → limit ≤ setup.limit → (limit ≡ setup.limit) ⊎ ((2 ≤ setup.workers) × IsNoBound found.ending) → (¬ SameClass start setup.goal → ◌≡◌ {A = Result EndingWithFigures OutOfMemory} (Ok found) (Ok (record { ending = Unsolvable Parity; figures = figures }))) → (SameClass start setup.goal → IsFoundAlone EndsWithFigures owner_of (problem_within limit setup start) owners found) → EndAnswers (task_of_setup setup start) found.ending → EndsWholeRun found.ending → MayAnswer setup start (Some found.ending)
-  may_end limit owner_of are owners figures found within whole by_parity run answered kept =
+  pub may_end : (limit : ℕ) {S : Type 0} (owner_of : S → ℕ → BoardModel → ℕ) → AreWorkers owner_of → (owners : S) (figures : Figures) (found : EndingWithFigures) → limit ≤ setup.limit → (2 ≤ setup.workers → limit ≤ ENOUGH_EXPANDED) → (limit ≡ setup.limit) ⊎ ((2 ≤ setup.workers) × IsNoBound found.ending) → (¬ SameClass start setup.goal → ◌≡◌ {A = Result EndingWithFigures OutOfMemory} (Ok found) (Ok (record { ending = Unsolvable Parity; figures = figures }))) → (SameClass start setup.goal → IsFoundAlone EndsWithFigures owner_of (problem_within limit setup start) owners found) → EndAnswers (task_of_setup setup start) found.ending → EndsWholeRun found.ending → MayAnswer setup start (Some found.ending)
+  may_end limit owner_of are owners figures found within few whole by_parity run answered kept =
       gives_so EndAnswers (IsOfRun setup start) (Unsolvable Parity) setup start (Ok found.ending) (λ other. ap ending_of (by_parity other)) (λ together. (inr (by_one (run together)), kept)) answered
     where
       alone : IsFoundAlone EndsWithFigures owner_of (problem_within limit setup start) owners found → IsFoundAlone EndsIn owner_of (problem_within limit setup start) owners found.ending
       alone (w, run, gives) = (w, run, gives.0)
 
       by_one : IsFoundAlone EndsWithFigures owner_of (problem_within limit setup start) owners found → IsFoundByOne EndsIn (λ it. it) setup start found.ending
-      by_one run = (limit, record { run = alone_any EndsIn setup start limit owner_of are owners owner_by setup_owners setup.spread found.ending (alone run); within = within; whole = whole })
+      by_one run = (limit, record { run = alone_any EndsIn setup start limit owner_of are owners owner_by setup_owners setup.spread found.ending (alone run); within = within; few = few; whole = whole })
 
   -- the stats of what is found, by the setup's workers or by one
   has_stats : (found : EndingWithFigures) (solved : Solved) → (¬ SameClass start setup.goal → found.figures ≡ record { expanded = 0; known = 0 }) → (SameClass start setup.goal → IsFound EndsWithFigures (λ it. it.ending) setup start found) → solved.ending ≡ found.ending → AreStatsOf setup start found.figures solved.stats → HasStats setup start solved
@@ -199,11 +199,11 @@ module _ (setup : SetupModel) (start : BoardModel) where
   pub workers_have_stats : (found : EndingWithFigures) (solved : Solved) → (¬ SameClass start setup.goal → ◌≡◌ {A = Result EndingWithFigures OutOfMemory} (Ok found) (Ok (record { ending = Unsolvable Parity; figures = record { expanded = 0; known = 0 } }))) → (SameClass start setup.goal → IsFound EndsWithFigures (λ it. it.ending) setup start found) → solved.ending ≡ found.ending → AreStatsOf setup start found.figures solved.stats → HasStats setup start solved
   workers_have_stats found solved by_parity run same stats = has_stats found solved (no_run_figures found by_parity) run same stats
 
-  pub one_has_stats : (limit : ℕ) {S : Type 0} (owner_of : S → ℕ → BoardModel → ℕ) → AreWorkers owner_of → (owners : S) (found : EndingWithFigures) (solved : Solved) → limit ≤ setup.limit → (limit ≡ setup.limit) ⊎ ((2 ≤ setup.workers) × IsNoBound found.ending) → (¬ SameClass start setup.goal → ◌≡◌ {A = Result EndingWithFigures OutOfMemory} (Ok found) (Ok (record { ending = Unsolvable Parity; figures = record { expanded = 0; known = 0 } }))) → (SameClass start setup.goal → IsFoundAlone EndsWithFigures owner_of (problem_within limit setup start) owners found) → solved.ending ≡ found.ending → AreStatsOf setup start found.figures solved.stats → HasStats setup start solved
-  one_has_stats limit owner_of are owners found solved within whole by_parity run same stats = has_stats found solved (no_run_figures found by_parity) (λ together. inr (by_one (run together))) same stats
+  pub one_has_stats : (limit : ℕ) {S : Type 0} (owner_of : S → ℕ → BoardModel → ℕ) → AreWorkers owner_of → (owners : S) (found : EndingWithFigures) (solved : Solved) → limit ≤ setup.limit → (2 ≤ setup.workers → limit ≤ ENOUGH_EXPANDED) → (limit ≡ setup.limit) ⊎ ((2 ≤ setup.workers) × IsNoBound found.ending) → (¬ SameClass start setup.goal → ◌≡◌ {A = Result EndingWithFigures OutOfMemory} (Ok found) (Ok (record { ending = Unsolvable Parity; figures = record { expanded = 0; known = 0 } }))) → (SameClass start setup.goal → IsFoundAlone EndsWithFigures owner_of (problem_within limit setup start) owners found) → solved.ending ≡ found.ending → AreStatsOf setup start found.figures solved.stats → HasStats setup start solved
+  one_has_stats limit owner_of are owners found solved within few whole by_parity run same stats = has_stats found solved (no_run_figures found by_parity) (λ together. inr (by_one (run together))) same stats
     where
       by_one : IsFoundAlone EndsWithFigures owner_of (problem_within limit setup start) owners found → IsFoundByOne EndsWithFigures (λ it. it.ending) setup start found
-      by_one run = (limit, record { run = alone_any EndsWithFigures setup start limit owner_of are owners owner_by setup_owners setup.spread found run; within = within; whole = whole })
+      by_one run = (limit, record { run = alone_any EndsWithFigures setup start limit owner_of are owners owner_by setup_owners setup.spread found run; within = within; few = few; whole = whole })
 
   -- one worker expands no more than it is allowed
   pub one_is_few : (limit most : ℕ) {S : Type 0} (owner_of : S → ℕ → BoardModel → ℕ) (owners : S) (found : EndingWithFigures) (stats : Stats) → limit ≤ most → (¬ SameClass start setup.goal → ◌≡◌ {A = Result EndingWithFigures OutOfMemory} (Ok found) (Ok (record { ending = Unsolvable Parity; figures = record { expanded = 0; known = 0 } }))) → (SameClass start setup.goal → IsFoundAlone EndsWithFigures owner_of (problem_within limit setup start) owners found) → AreStatsOf setup start found.figures stats → stats.expanded ≤ most
@@ -283,7 +283,7 @@ certified_answered setup b o (answers, inl (together, (solved, kept))) = by_rows
 
     found : (o : Outcome) → HasItsRows o → IsFound IsGiven without_rows setup b o → IsFound EndsIn (λ it. it) setup b (without_rows o)
     found o has (inl solved) = inl (solved_ends owner_by (problem_of setup b) setup.spread setup.workers o solved has)
-    found o has (inr (limit, it)) = inr (limit, record { run = alone o limit has it.run; within = it.within; whole = it.whole })
+    found o has (inr (limit, it)) = inr (limit, record { run = alone o limit has it.run; within = it.within; few = it.few; whole = it.whole })
 
     ends : (o : Outcome) → HasItsRows o → Answers (task_of_setup setup b) o → IsFound IsGiven without_rows setup b o → HasWholeRun o → MayAnswer setup b (Some (without_rows o))
     ends o has answers solved kept = (ends_answered (task_of_setup setup b) o answers, inl (together, (found o has solved, kept)))

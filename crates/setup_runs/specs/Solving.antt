@@ -27,6 +27,7 @@ use Rattle.batch_lines.specs.Words.{IsEntry}
 use Rattle.batch_runs.specs.declared.stats.Stats.{Stats}
 use Rattle.batch_runs.specs.declared.stats.Solved.{Solved}
 use Rattle.certificate_runs.specs.Rules.{ProofRules}
+use Rattle.setup_runs.specs.declared.solving.TheConstants.{ENOUGH_EXPANDED}
 
 -- what is to be solved for a board within a limit: the setup says the rest
 abbrev pub problem_within : ℕ → SetupModel → BoardModel → JobModel
@@ -43,9 +44,11 @@ IsNoBound (Unsolvable why) = ⊤
 IsNoBound (Bounded bound best cause) = ⊥
 
 -- One worker finds the answer within this limit: the setup's, or a lower one where there are several workers and the answer is no bound.
+-- One of several is left alone for two million expansions at most.
 pub record IsFoundWithin {X : Type 0} (gives : WorldState → X → Type 0) (end : X → Ending) (setup : SetupModel) (start : BoardModel) (answer : X) (limit : ℕ) : Type 0 where
   pub run : IsFoundAlone gives owner_by (problem_within limit setup start) setup.spread answer
   pub within : limit ≤ setup.limit
+  pub few : 2 ≤ setup.workers → limit ≤ ENOUGH_EXPANDED
   pub whole : (limit ≡ setup.limit) ⊎ ((2 ≤ setup.workers) × IsNoBound (end answer))
 
 -- one worker finds the answer: several boards may be solved side by side, and an easy board is not shared

@@ -10,13 +10,12 @@ ghost use Rattle.hda_run.specs.WholeRuns.{EndsWholeRun};
 ghost use Rattle.setup_runs.specs.Solving.{MayAnswer, IsNoBound, HasStats, rules_of};
 ghost use Rattle.setup_runs.specs.declared.ahead.Left.TheVariants.{TooHard};
 
-use crate::solving::{ENOUGH_EXPANDED, Question, TellsBounds, job_within, solved_since};
+use crate::solving::{ENOUGH_EXPANDED, Question, TellsBounds, read_over, solved_since};
 use crate::watching::Watch;
 use batch_lines::{LineKind, LineReader, read_entry};
 use batch_runs::{Setup, Solved};
 use board::{Board, Shape};
 use byte_streams::ByteSource;
-use hda_run::read_one_over;
 use memory::{OutOfMemory, push};
 use outcomes::{Cause, Ending, Want};
 use owners::{ByBlank, Spread};
@@ -310,8 +309,7 @@ fn end_alone<S: Spread, W: Watch>(
 {
     let begun = watch.microseconds();
     let limit = question.setup.expansion_limit().min(ENOUGH_EXPANDED);
-    let job = job_within(question, limit);
-    let found = match read_one_over::<WithFigures, S, W>(alloc, job, spread, watch, lists) {
+    let found = match read_over::<WithFigures, S, W>(alloc, question, limit, spread, watch, lists) {
         Ok(found) => found,
         Err(refused) => return Err(Left::NoMemory(refused)),
     };

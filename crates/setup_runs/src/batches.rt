@@ -17,6 +17,7 @@ use hda_run::Gate;
 use memory::OutOfMemory;
 use search_lists::SearchLists;
 use std::alloc::Global;
+use std::mem::replace;
 use std::sync::{Mutex, Wait};
 use std::thread::Threads;
 
@@ -142,7 +143,10 @@ pub fn run_watched<R: Threads + Wait + Sync, S: Source, K: Sink, W: Watch + Sync
             × IfOk result (HasStats setup.entry.now start.now) }
     {
         let question = Question { setup, start };
-        solve_board(rt, alloc, &question, watch, &mut kept.lock(rt))
+        let mut lists = take_kept(rt, alloc, &kept);
+        let solved = solve_board(rt, alloc, &question, watch, &mut lists);
+        *kept.lock(rt) = lists;
+        solved
     };
     let ahead = |start: &Board, held: &[u8]| -> Vec<(Board, Option<Solved>)>
         requires { start.now.grid ≡ setup.now.goal.grid }
@@ -161,4 +165,10 @@ pub fn run_watched<R: Threads + Wait + Sync, S: Source, K: Sink, W: Watch + Sync
         watch,
     };
     run_lines(alloc, source, sink, &guided)
+}
+
+// Takes lists whose memory is kept, so that no lock is held while a board is solved.
+fn take_kept<R: Wait>(rt: &R, alloc: Global, kept: &Mutex<SearchLists>) -> SearchLists {
+    let mut held = kept.lock(rt);
+    replace(&mut *held, SearchLists::new(alloc))
 }

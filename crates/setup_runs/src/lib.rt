@@ -5,7 +5,8 @@
 //!   closures call `solve_board` or `answer_board`. These make the `Job` (`job_within`) and call
 //!   `read_one_over` for one worker or an easy board, and else `search_by_workers`.
 //! - The memory of a worker's lists is kept from one board to the next: in a batch for all lines,
-//!   in `end_ahead` for all boards of a thread.
+//!   in `end_ahead` for all boards of a thread. Where memory is refused over lists that served
+//!   before, the worker begins anew over new ones (`read_over`).
 //! - `run_watched` is `run_batch` under a `Watch`: a gate, a clock, and whoever takes figures.
 //!   Searches read `WithFigures`, whose figures are exact; no contract says what a watch does.
 //! - One worker owns all boards, so it is run with the cheapest spread.

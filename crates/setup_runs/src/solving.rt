@@ -1,8 +1,11 @@
 //! The solver of a setup's boards.
 
-ghost use Rattle.std.specs.Prelude.{◌≡◌, ◌-◌, ◌^◌, ◌≤◌, min, IfOk, IfSome, IsFalse, IsTrue, Ok};
+ghost use Rattle.std.specs.Prelude.{◌≡◌, ◌↔◌, ◌-◌, ◌^◌, ◌≤◌, min, IfOk, IfSome, IsFalse, IsTrue, Ok};
 ghost use Rattle.board.specs.Boards.{BoardModel};
-ghost use Rattle.batch_runs.specs.Setups.{owner_by};
+ghost use Rattle.board.specs.Classes.{SameClass};
+ghost use Rattle.batch_runs.specs.Setups.{owner_by, task_of_setup};
+ghost use Rattle.hda_run.specs.Alone.{IsFoundAlone};
+ghost use Rattle.hda_run.specs.WholeRuns.{EndsWholeRun};
 ghost use Rattle.batch_runs.specs.Batches.{MayGive};
 ghost use Rattle.setup_runs.specs.Solving.{problem_of, problem_within, rules_of};
 ghost use Rattle.setup_runs.specs.Solving.{IsSearched, IsNoBound, AreStatsOf, HasStats};
@@ -12,7 +15,7 @@ use batch_runs::{Setup, Solved, SpreadKind, Stats};
 use board::Board;
 use hda_run::{Gate, Job, read_one_over};
 use memory::OutOfMemory;
-use outcomes::{Ending, Outcome};
+use outcomes::{Cause, Ending, Outcome};
 use owners::{Abstract, ByBlank, Spread, Zobrist};
 use search_lists::SearchLists;
 use std::alloc::Global;
@@ -38,17 +41,40 @@ pub(crate) trait TellsBounds: Reading {
     fn is_bound(answer: &Self::Answer) -> bool
         ensures no { IsFalse result → IsNoBound (Self.end answer.now) }
         ensures yes { IsTrue result → ¬ IsNoBound (Self.end answer.now) };
+
+    /// Whether the run ended for memory. No contract speaks of it.
+    fn lacks_memory(answer: &Self::Answer) -> bool;
 }
 
 impl TellsBounds for WithRows {
     fn is_bound(answer: &Outcome) -> bool {
         matches!(answer, Outcome::Bounded { .. })
     }
+
+    fn lacks_memory(answer: &Outcome) -> bool {
+        matches!(
+            answer,
+            Outcome::Bounded {
+                cause: Cause::Memory(_),
+                ..
+            }
+        )
+    }
 }
 
 impl TellsBounds for WithFigures {
     fn is_bound(answer: &EndingWithFigures) -> bool {
         matches!(answer.ending, Ending::Bounded { .. })
+    }
+
+    fn lacks_memory(answer: &EndingWithFigures) -> bool {
+        matches!(
+            answer.ending,
+            Ending::Bounded {
+                cause: Cause::Memory(_),
+                ..
+            }
+        )
     }
 }
 
@@ -128,12 +154,14 @@ pub(crate) fn answer_board<A: TellsBounds, R: Threads + Wait + Sync, G: Gate + S
     if let Some(answer) = answer_easy::<A, ByBlank, G>(alloc, question, &ByBlank, gate, lists) {
         return Ok(answer);
     }
+    // What is kept for easy boards isn't to be lacked by the others.
+    *lists = SearchLists::new(alloc);
     answer_shared::<A, R, G>(rt, alloc, question, gate)
 }
 
 // The answer of a board by the setup's only worker, which owns all boards, whatever they are spread
 // by.
-fn answer_alone<A: Reading, S: Spread, G: Gate>(
+fn answer_alone<A: TellsBounds, S: Spread, G: Gate>(
     alloc: Global,
     question: &Question<'_>,
     spread: &S,
@@ -144,8 +172,67 @@ fn answer_alone<A: Reading, S: Spread, G: Gate>(
     ensures { IsSearched A.gives A.answers A.end A.parity question.now.setup.now
         question.now.start.now result }
 {
-    let job = job_for(question);
+    let limit = question.setup.expansion_limit();
+    read_over::<A, S, G>(alloc, question, limit, spread, gate, lists)
+}
+
+/// What one worker finds of a board within a limit, over lists whose memory is kept from one board
+/// to the next. Where memory is refused over lists that served before, they are dropped, and the
+/// worker begins anew: what is kept must cost no answer.
+pub(crate) fn read_over<A: TellsBounds, S: Spread, G: Gate>(
+    alloc: Global,
+    question: &Question<'_>,
+    limit: u64,
+    spread: &S,
+    gate: &G,
+    lists: &mut SearchLists,
+) -> Result<A::Answer, OutOfMemory>
+    ensures parity { (result ≡ Ok A.parity)
+        ↔ (¬ SameClass question.now.start.now question.now.setup.now.goal) }
+    ensures run { SameClass question.now.start.now question.now.setup.now.goal
+        → IfOk result (IsFoundAlone A.gives S.owner_of
+        (problem_within limit question.now.setup.now question.now.start.now) spread.now) }
+    ensures answers { IfOk result
+        (A.answers (task_of_setup question.now.setup.now question.now.start.now)) }
+    ensures kept { IfOk result (λ answer. EndsWholeRun (A.end answer)) }
+{
+    let have_served = lists.len() > 0;
+    let found = read_once::<A, S, G>(alloc, question, limit, spread, gate, lists);
+    if !have_served || !lacks_memory::<A>(&found) {
+        return found;
+    }
+    *lists = SearchLists::new(alloc);
+    read_once::<A, S, G>(alloc, question, limit, spread, gate, lists)
+}
+
+// The same, whether or not memory is refused.
+fn read_once<A: TellsBounds, S: Spread, G: Gate>(
+    alloc: Global,
+    question: &Question<'_>,
+    limit: u64,
+    spread: &S,
+    gate: &G,
+    lists: &mut SearchLists,
+) -> Result<A::Answer, OutOfMemory>
+    ensures parity { (result ≡ Ok A.parity)
+        ↔ (¬ SameClass question.now.start.now question.now.setup.now.goal) }
+    ensures run { SameClass question.now.start.now question.now.setup.now.goal
+        → IfOk result (IsFoundAlone A.gives S.owner_of
+        (problem_within limit question.now.setup.now question.now.start.now) spread.now) }
+    ensures answers { IfOk result
+        (A.answers (task_of_setup question.now.setup.now question.now.start.now)) }
+    ensures kept { IfOk result (λ answer. EndsWholeRun (A.end answer)) }
+{
+    let job = job_within(question, limit);
     read_one_over::<A, S, G>(alloc, job, spread, gate, lists)
+}
+
+// Whether a run was refused memory, before its first step or later.
+fn lacks_memory<A: TellsBounds>(found: &Result<A::Answer, OutOfMemory>) -> bool {
+    match found {
+        Ok(answer) => A::lacks_memory(answer),
+        Err(_) => true,
+    }
 }
 
 // The answer of a board that all workers share, by the setup's spread. (It is never inlined: its
@@ -181,6 +268,7 @@ fn answer_shared<A: TellsBounds, R: Threads + Wait + Sync, G: Gate + Sync>(
 // if all began anew within the same limit: a higher limit would give a lower bound.
 fn easy_limit(whole: u64) -> u64
     ensures within { result ≤ whole }
+    ensures few { result ≤ ENOUGH_EXPANDED }
     ensures all { whole ≤ ENOUGH_EXPANDED → result ≡ whole }
 {
     if whole <= ENOUGH_EXPANDED {
@@ -204,8 +292,7 @@ fn answer_easy<A: TellsBounds, S: Spread, G: Gate>(
 {
     let whole = question.setup.expansion_limit();
     let limit = easy_limit(whole);
-    let job = job_within(question, limit);
-    let Ok(answer) = read_one_over::<A, S, G>(alloc, job, spread, gate, lists) else {
+    let Ok(answer) = read_over::<A, S, G>(alloc, question, limit, spread, gate, lists) else {
         return None;
     };
     if limit == whole {
