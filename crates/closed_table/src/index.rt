@@ -366,15 +366,25 @@ fn bits_for_more(bits: u32, chains: usize) -> u32
     bits
 }
 
-// Reads ahead, for every eighth chain that is divided (not the first eight after a doubling), what
-// `relink` will read first of the lists of this one and the seven next, so that the reads of memory
-// overlap. The answer means nothing.
+// The chain that is divided next: the first one where the chains are doubled already.
+fn next_divided(bits: u32, chains: usize) -> usize
+    requires { bits ≤ 32 }
+{
+    let all = 1usize << bits;
+    if chains >= all {
+        return 0;
+    }
+    chains.saturating_sub(all / 2)
+}
+
+// Reads ahead, for every eighth chain that is divided, what `relink` will read first of the lists of
+// this one and the seven next, so that the reads of memory overlap. The answer means nothing.
 fn read_lists(index: &Index) -> u64
     requires small { index.now.bits ≤ 32 }
     requires few { index.now.len ≤ 2 ^ 33 }
 {
     let chains = chain_count_of(index.len);
-    let next = chains.saturating_sub((1usize << index.bits) / 2);
+    let next = next_divided(index.bits, chains);
     if next % LISTS_AT_ONCE != 0 {
         return 0;
     }

@@ -1,6 +1,6 @@
 -- The laws of open lists.
-use Rattle.std.specs.Prelude.{ℕ, ◌≡◌, ◌≤◌, Some, slice_get, Contains, IsPermutation}
-use Rattle.open_buckets.specs.OpenLists.{OpenModel, entries_at, places_at, PutsEntry, Sorts, BringsLast, TakesEntry, IsLastAt, IsNextEntry}
+use Rattle.std.specs.Prelude.{ℕ, ◌≡◌, ◌≤◌, length, Option, Some, slice_get, Contains, IsPermutation}
+use Rattle.open_buckets.specs.OpenLists.{OpenModel, entries_at, places_at, PutsEntry, Sorts, BringsLast, TakesEntry, IsLastAt, IsNextEntry, IsLeastF}
 
 -- the entry that is taken is the next one
 abbrev pub TheNextIsTaken : Type 0 → Type 0
@@ -25,3 +25,11 @@ TheBroughtIsLast K = (f before : ℕ) (brought last : K × ℕ) (old new : OpenM
 -- and at each f the same entries wait, in some order, with as many places
 abbrev pub NoneIsLost : Type 0 → Type 0
 NoneIsLost K = (f before : ℕ) (old new : OpenModel K) → BringsLast f before old new → (h : ℕ) → IsPermutation (entries_at old h) (entries_at new h) × (places_at new h ≡ places_at old h)
+
+-- where there are no more entries at f, nothing changes
+abbrev pub NoneIsBrought : Type 0 → Type 0
+NoneIsBrought K = (f before : ℕ) (old new : OpenModel K) → BringsLast f before old new → length (entries_at old f) ≤ before → new ≡ old
+
+-- the least f is that of the next entry; so where there is none, no entry is next
+abbrev pub TheNextHasTheLeastF : Type 0 → Type 0
+TheNextHasTheLeastF K = (f : ℕ) (next : K × ℕ) (list : OpenModel K) (least : Option ℕ) → IsLeastF list least → IsNextEntry f next list → least ≡ Some f

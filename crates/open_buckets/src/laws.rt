@@ -3,6 +3,7 @@
 ghost use Rattle.std.specs.Prelude.{◌≡◌, ◌+◌, ◌*◌};
 ghost use Rattle.open_buckets.specs.Laws.{TheNextIsTaken, TheLastPutIsTaken};
 ghost use Rattle.open_buckets.specs.Laws.{TheNextWasThere, NoneCostsMore, TheBroughtIsLast, NoneIsLost};
+ghost use Rattle.open_buckets.specs.Laws.{NoneIsBrought, TheNextHasTheLeastF};
 
 use crate::open::GREATEST_F;
 
@@ -28,6 +29,12 @@ pub fn the_dearest_is_next<K: Copy>()
 pub fn the_brought_is_last<K: Copy>()
     ensures last { TheBroughtIsLast K }
     ensures same { NoneIsLost K }
+    ensures none { NoneIsBrought K }
+{}
+
+/// The least f is that of the entry that is taken next; where there is none, no entry is next.
+pub fn the_next_has_the_least_f<K: Copy>()
+    ensures { TheNextHasTheLeastF K }
 {}
 
 /// The greatest f is a cost of 1,048,320, a move of weight 255, and 24 values of 65,535.

@@ -135,7 +135,6 @@ impl<K: Copy> Open<K> {
             self.buckets[self.cursor].clear();
             self.cursor += 1;
         }
-        self.cursor = 0;
     }
 
     /// Puts the entries at an f in order of their costs, so that one of the greatest cost is taken

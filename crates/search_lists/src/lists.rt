@@ -117,7 +117,8 @@ impl SearchLists {
     /// Forgets all boards, and the places that were promised for them. The memory stays, so that
     /// another search needs no more until it is larger.
     pub fn clear(&mut self)
-        ensures { HasMoreRoom empty_lists self.new }
+        ensures empty { HasMoreRoom empty_lists self.new }
+        ensures places { (h : ℕ) → places_at self.old.waiting h ≤ places_at self.new.waiting h }
     {
         self.closed.clear();
         self.open.clear();
@@ -162,7 +163,14 @@ impl SearchLists {
         ensures waiting { self.new.waiting ≡ self.old.waiting }
         ensures same { HasMoreRoom self.old self.new }
     {
-        make_room(&mut self.closed, alloc, count)
+        if count <= self.closed.room() {
+            return Ok(());
+        }
+        if let Ok(()) = self.closed.reserve(alloc, count.max(ROOM_AT_ONCE)) {
+            return Ok(());
+        }
+        self.closed.reserve(alloc, count)?;
+        Ok(())
     }
 
     /// Whether there are places for this many boards that wait at an f.
@@ -206,8 +214,16 @@ impl SearchLists {
         ensures order { (guide : Guide) → guide.goal ≡ goal → AddsUp guide met
             → IsInOrder guide self.old → IsInOrder guide self.new }
     {
-        self.goal_met |= met.key == goal;
-        relax(&mut self.closed, &mut self.open, goal, met);
+        let is_goal = met.key == goal;
+        self.goal_met |= is_goal;
+        let (relaxed, place) = self.closed.relax(met.key, met.cost, met.via);
+        if is_goal {
+            return;
+        }
+        if is_kept(relaxed) {
+            return;
+        }
+        self.open.put(met.f, place, met.cost);
     }
 
     /// Whether a goal was met by `relax` since the start or since `clear`. No more than a hint: no
@@ -325,55 +341,6 @@ impl SearchLists {
     {
         self.closed.read_ahead(key);
     }
-}
-
-// Makes places for this many new keys: for more of them at once, and else for just these.
-fn make_room(closed: &mut Closed, alloc: Global, count: usize) -> Result<(), OutOfMemory>
-    ensures ok { OnOk result (count ≤ closed.new.room) }
-    ensures err { OnErr result (closed.new ≡ closed.old) }
-    ensures refused { OnErr result (closed.old.room < count) }
-    ensures enough { count ≤ closed.old.room → closed.new ≡ closed.old }
-    ensures few { closed.new.room ≤ max closed.old.room (max count ROOM_AT_ONCE) }
-    ensures keys { closed.new.keys ≡ closed.old.keys }
-    ensures known { closed.new.known ≡ closed.old.known }
-    ensures room { closed.old.room ≤ closed.new.room }
-{
-    if count <= closed.room() {
-        return Ok(());
-    }
-    if let Ok(()) = closed.reserve(alloc, count.max(ROOM_AT_ONCE)) {
-        return Ok(());
-    }
-    closed.reserve(alloc, count)?;
-    Ok(())
-}
-
-// Relaxes a board, and lets it wait where its cost is news, unless it is the goal.
-#[inline(always)]
-fn relax(closed: &mut Closed, waiting: &mut Open<u32>, goal: u128, met: Met)
-    requires room { map.get closed.old.known met.key ≡ None → 0 < closed.old.room }
-    requires place { 0 < places_at waiting.old met.f }
-    requires known { AreKnown (both closed.old waiting.old) }
-    ensures known { AreKnown (both closed.new waiting.new) }
-    ensures closed { closed.new ≡ table_relaxation closed.old met.key met.cost met.via }
-    ensures still { (is_news (map.get closed.old.known met.key) met.cost ≡ false)
-        ⊎ (met.key ≡ goal) → waiting.new ≡ waiting.old }
-    ensures put { is_news (map.get closed.old.known met.key) met.cost ≡ true
-        → met.key ≢ goal → (place : ℕ) × (slice_get closed.new.keys place ≡ Some met.key)
-        × PutsEntry met.f (place, met.cost) waiting.old waiting.new }
-    ensures places { (h : ℕ) → places_at waiting.old h ≤ places_at waiting.new h + 1 }
-    ensures order { (guide : Guide) → guide.goal ≡ goal → AddsUp guide met
-        → IsInOrder guide (both closed.old waiting.old)
-        → IsInOrder guide (both closed.new waiting.new) }
-{
-    let (relaxed, place) = closed.relax(met.key, met.cost, met.via);
-    if is_kept(relaxed) {
-        return;
-    }
-    if met.key == goal {
-        return;
-    }
-    waiting.put(met.f, place, met.cost);
 }
 
 // Whether the cost was no news.
