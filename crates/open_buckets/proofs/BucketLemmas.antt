@@ -9,7 +9,7 @@ use Rattle.std.proofs.lemmas.List.{take_more, take_all, get_or-set_same, get_or-
 use Rattle.std.proofs.Math.Seq.{map-set_same}
 use Rattle.std.proofs.lemmas.List.Sorted.{Contains-permutation, IsPermutation-sym, IsPermutation-refl, IsPermutation-swap}
 use Rattle.std.proofs.lemmas.Option.{get_or_from_slice_get, slice_get_within}
-use Rattle.open_buckets.specs.OpenLists.{OpenModel, entries_at, places_at, NothingWaits, OthersStay, PutsEntry, TakesEntry, Sorts, BringsLast, IsLastAt, IsNextEntry}
+use Rattle.open_buckets.specs.OpenLists.{OpenModel, entries_at, places_at, OthersStay, PutsEntry, TakesEntry, Sorts, BringsLast, IsLastAt, IsNextEntry}
 use Rattle.open_buckets.specs.Buckets.{list_of}
 
 module _ {K Z : Type 0} where
@@ -107,6 +107,7 @@ module _ {K Z : Type 0} where
           let old_len = old.ok.0 in
           let new_len = b.ok.0 in record {
             exchanged = subst (λ xs. IsPermutation xs (entries_at (list_of (set bs f b)) f)) (sym entries_old) (subst (IsPermutation old.items) (sym entries_set) (IsPermutation-swap old.items b.items before (old.len - 1) within (omega (arith, within)) items));
+            swapped = λ _. entries_set ∙ items ∙ ap (λ n. swap old.items before (n - 1)) old_len ∙ ap (λ xs. swap xs before (length xs - 1)) (sym entries_old);
             last = λ entry there.
                 let here : slice_get old.items before ≡ Some entry = ap (λ xs. slice_get xs before) (sym entries_old) ∙ there in
                 let read : get_or b.items (old.len - 1) entry ≡ entry = last entry ∙ get_or_from_slice_get old.items before entry entry here in
@@ -179,14 +180,11 @@ module _ {K Z : Type 0} where
       let cut : take (length b.items) b.items ≡ take (b.len - 1) b.items ++ get_or b.items (b.len - 1) entry ∷ [] = ap (λ n. take n b.items) size ∙ take_more b.items (b.len - 1) entry (omega arith) in
       (take (b.len - 1) b.items, entries_in bs f b lt ∙ ap (λ (v : Vec (K × ℕ) Z). v.items) (sym is) ∙ sym (take_all (length b.items) b.items (omega arith)) ∙ cut ∙ ap (λ x. take (b.len - 1) b.items ++ x ∷ []) (sym read))
 
-  -- it is next where nothing waits below
-  pub next_in : (bs : List (Vec (K × ℕ) Z)) (f : ℕ) (b : Vec (K × ℕ) Z) (entry : K × ℕ) → f < length bs → b ≡ get_or bs f b → vec_len b ≢ 0 → entry ≡ get_or b.items (vec_len b - 1) entry → NothingWaits (list_of bs) f → IsNextEntry f entry (list_of bs)
-  next_in bs f b entry lt is some read before = record { last = last_in bs f b entry lt is some read; least = before }
-
 -- no such entry
 pub none_brought : {K : Type 0} (list : OpenModel K) (f before : ℕ) → length (entries_at list f) ≤ before → BringsLast f before list list
 none_brought list f before past = record {
   exchanged = IsPermutation-refl (entries_at list f);
+  swapped = λ within. absurd (omega (arith, past, within));
   last = λ entry there. let lt = slice_get_within (entries_at list f) before entry there in absurd (omega (arith, past, lt));
   none = λ _. refl;
   places = refl;
@@ -213,3 +211,10 @@ none_costs_more {K} f next other old new sorts is_next found =
     let here : (get_or (entries_at new f) there.0 other).1 ≡ other.1 = ap (λ (e : K × ℕ). e.1) there.2 in
     let dearest : (get_or (entries_at new f) (length is_next.last.0) other).1 ≡ next.1 = ap (λ (e : K × ℕ). e.1) last.0 in
     omega arith
+
+pub all_in_order : {K : Type 0} (f i j : ℕ) (one other : K × ℕ) (old new : OpenModel K) → Sorts f old new → i ≤ j → slice_get (entries_at new f) i ≡ Some one → slice_get (entries_at new f) j ≡ Some other → one.1 ≤ other.1
+all_in_order {K} f i j one other old new sorts before first second =
+    let ordered : (get_or (entries_at new f) i one).1 ≤ (get_or (entries_at new f) j one).1 = sorts.sorted i j one before (slice_get_within (entries_at new f) j other second) in
+    let here : (get_or (entries_at new f) i one).1 ≡ one.1 = ap (λ (e : K × ℕ). e.1) (get_or_from_slice_get (entries_at new f) i one one first) in
+    let there : (get_or (entries_at new f) j one).1 ≡ other.1 = ap (λ (e : K × ℕ). e.1) (get_or_from_slice_get (entries_at new f) j other one second) in
+    omega (arith, ordered, here, there)

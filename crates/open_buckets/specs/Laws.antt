@@ -1,5 +1,5 @@
 -- The laws of open lists.
-use Rattle.std.specs.Prelude.{ℕ, ◌≡◌, ◌≤◌, length, Option, Some, slice_get, Contains, IsPermutation}
+use Rattle.std.specs.Prelude.{ℕ, ◌≡◌, ◌≤◌, ◌+◌, length, Option, Some, slice_get, Contains, IsPermutation}
 use Rattle.open_buckets.specs.OpenLists.{OpenModel, entries_at, places_at, PutsEntry, Sorts, BringsLast, TakesEntry, IsLastAt, IsNextEntry, IsLeastF}
 
 -- the entry that is taken is the next one
@@ -33,3 +33,15 @@ NoneIsBrought K = (f before : ℕ) (old new : OpenModel K) → BringsLast f befo
 -- the least f is that of the next entry; so where there is none, no entry is next
 abbrev pub TheNextHasTheLeastF : Type 0 → Type 0
 TheNextHasTheLeastF K = (f : ℕ) (next : K × ℕ) (list : OpenModel K) (least : Option ℕ) → IsLeastF list least → IsNextEntry f next list → least ≡ Some f
+
+-- where the entries at an f were put in order, none costs more than one behind it
+abbrev pub AllAreInOrder : Type 0 → Type 0
+AllAreInOrder K = (f i j : ℕ) (one other : K × ℕ) (old new : OpenModel K) → Sorts f old new → i ≤ j → slice_get (entries_at new f) i ≡ Some one → slice_get (entries_at new f) j ≡ Some other → one.1 ≤ other.1
+
+-- the same entries wait at each f, in some order, with as many places
+abbrev pub NoneIsLostInOrder : Type 0 → Type 0
+NoneIsLostInOrder K = (f : ℕ) (old new : OpenModel K) → Sorts f old new → (h : ℕ) → IsPermutation (entries_at old h) (entries_at new h) × (places_at new h ≡ places_at old h)
+
+-- an entry that is taken gives one place back
+abbrev pub OnePlaceIsGivenBack : Type 0 → Type 0
+OnePlaceIsGivenBack K = (f : ℕ) (taken : K × ℕ) (old new : OpenModel K) → TakesEntry f taken old new → places_at new f ≡ places_at old f + 1

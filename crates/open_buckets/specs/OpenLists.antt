@@ -1,6 +1,6 @@
 -- What contracts see of an open list: for each f its entries, and how many more have a place. An entry is a key and a cost; its f is the
 -- cost of a board plus its sum.
-use Rattle.std.specs.Prelude.{ℕ, ◌≡◌, ◌≢◌, ◌<◌, ◌≤◌, ◌+◌, List, length, [], ◌∷◌, ◌++◌, Option, None, Some, slice_index, slice_get, slice_index_or, IsPermutation}
+use Rattle.std.specs.Prelude.{ℕ, ◌≡◌, ◌≢◌, ◌<◌, ◌≤◌, ◌+◌, ◌-◌, List, swap, length, [], ◌∷◌, ◌++◌, Option, None, Some, slice_index, slice_get, slice_index_or, IsPermutation}
 use Rattle.std.specs.List.Sorted.{IsNonDecreasingBy}
 
 -- Entries and places, both by f.
@@ -48,7 +48,8 @@ pub record Sorts {K : Type 0} (f : ℕ) (old new : OpenModel K) : Type 0 where
 -- the entry at f with this many before it is made the last one there, by an exchange of the two; where there is none, nothing moves
 pub record BringsLast {K : Type 0} (f before : ℕ) (old new : OpenModel K) : Type 0 where
   pub exchanged : IsPermutation (entries_at old f) (entries_at new f)
-  pub last : (entry : K × ℕ) → slice_get (entries_at old f) before ≡ Some entry → (rest : List (K × ℕ)) × (entries_at new f ≡ rest ++ entry ∷ [])
+  pub swapped : before < length (entries_at old f) → entries_at new f ≡ swap (entries_at old f) before (length (entries_at old f) - 1)
+  pub last : (entry : K × ℕ) → slice_get (entries_at old f) before ≡ Some entry → IsLastAt f entry new
   pub none : length (entries_at old f) ≤ before → new ≡ old
   pub places : places_at new f ≡ places_at old f
   pub others : OthersStay f old new
@@ -62,7 +63,7 @@ pub record TakesEntry {K : Type 0} (f : ℕ) (entry : K × ℕ) (old new : OpenM
 
 -- the entry that is taken next: the last one at f, which is the least f of all
 pub record IsNextEntry {K : Type 0} (f : ℕ) (entry : K × ℕ) (list : OpenModel K) : Type 0 where
-  pub last : (rest : List (K × ℕ)) × (entries_at list f ≡ rest ++ entry ∷ [])
+  pub last : IsLastAt f entry list
   pub least : NothingWaits list f
 
 -- the least f of all entries; none where nothing waits

@@ -3,7 +3,8 @@
 ghost use Rattle.std.specs.Prelude.{◌≡◌, ◌+◌, ◌*◌};
 ghost use Rattle.open_buckets.specs.Laws.{TheNextIsTaken, TheLastPutIsTaken};
 ghost use Rattle.open_buckets.specs.Laws.{TheNextWasThere, NoneCostsMore, TheBroughtIsLast, NoneIsLost};
-ghost use Rattle.open_buckets.specs.Laws.{NoneIsBrought, TheNextHasTheLeastF};
+ghost use Rattle.open_buckets.specs.Laws.{NoneIsBrought, TheNextHasTheLeastF, AllAreInOrder};
+ghost use Rattle.open_buckets.specs.Laws.{NoneIsLostInOrder, OnePlaceIsGivenBack};
 
 use crate::open::GREATEST_F;
 
@@ -15,13 +16,16 @@ pub fn the_next_is_taken<K: Copy>()
 /// What is taken where an entry was put is that entry, and then all entries are as before it, and
 /// no place is lost.
 pub fn the_last_put_is_taken<K: Copy>()
-    ensures { TheLastPutIsTaken K }
+    ensures taken { TheLastPutIsTaken K }
+    ensures place { OnePlaceIsGivenBack K }
 {}
 
 /// Where the entries at an f were put in order, the next one is one of them, and none costs more.
 pub fn the_dearest_is_next<K: Copy>()
     ensures there { TheNextWasThere K }
     ensures greatest { NoneCostsMore K }
+    ensures order { AllAreInOrder K }
+    ensures same { NoneIsLostInOrder K }
 {}
 
 /// An entry that was made the last one at its f is the last one there, and no entry or place is

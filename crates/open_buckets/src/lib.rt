@@ -5,8 +5,8 @@
 //!   least f.
 //! - Only `reserve` takes memory; `put` requires a place, and an entry taken out leaves its place.
 //!   `clear` takes out all, so that the list can be used again with the memory that it has.
-//! - `take_lowest` takes the last entry of the least f below a limit; `peek_lowest` only looks, so
-//!   that a step chooses before it grows. `last_at` looks at one f alone.
+//! - `take_lowest` takes the last entry of the least f below a limit. `lowest` and `last_at` look
+//!   without taking.
 //! - `sort_at` sorts one f by cost. A bucket that grows gets 32 places, or just those asked for if
 //!   these are refused.
 //! - Start with `specs/OpenLists.antt`, then `src/open.rt`.

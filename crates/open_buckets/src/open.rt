@@ -4,7 +4,7 @@ ghost use Rattle.std.specs.Prelude.{◌≡◌, ◌≢◌, ◌<◌, ◌≤◌, �
 ghost use Rattle.std.specs.Prelude.{IsTrue, ◌↔◌, [], length, slice_get};
 ghost use Rattle.std.specs.Prelude.{vec_len, vec_capacity};
 ghost use Rattle.open_buckets.specs.OpenLists.{empty_list, entries_at, places_at, NothingWaits};
-ghost use Rattle.open_buckets.specs.OpenLists.{PutsEntry, TakesEntry, Sorts, IsNextEntry, IsLeastF};
+ghost use Rattle.open_buckets.specs.OpenLists.{PutsEntry, TakesEntry, Sorts, IsLeastF};
 ghost use Rattle.open_buckets.specs.OpenLists.{BringsLast, IsLastAt};
 
 use memory::OutOfMemory;
@@ -223,26 +223,6 @@ impl<K: Copy> Open<K> {
                 return Some(entry);
             }
             self.cursor += 1;
-        }
-        None
-    }
-
-    /// The entry that `take_lowest` would take.
-    pub fn peek_lowest(&self, below: u32) -> Option<(K, u32)>
-        ensures { MatchOption result (NothingWaits self.now below)
-            (λ entry. (f : ℕ) × (f < below) × IsNextEntry f entry self.now) }
-    {
-        let limit = below as usize;
-        let mut place = self.cursor;
-        'places: while place < limit {
-            if place >= self.buckets.len() {
-                return None;
-            }
-            let bucket = &self.buckets[place];
-            if !bucket.is_empty() {
-                return Some(bucket[bucket.len() - 1]);
-            }
-            place += 1;
         }
         None
     }

@@ -5,9 +5,8 @@
 //! - `IsInOrder`: each open board waits at its f, and every entry was put there so.
 //! - `relax` puts news into the open list; `next` gives an open board of least f below a limit;
 //!   outdated entries go out at their turn.
-//! - The entries of an f are sorted, so that the greatest g comes first, when it becomes the least
-//!   and exceeds each sorted before, and after `order_anew`. Entries that are put there later come
-//!   first. No clause says so.
+//! - `next` sorts the entries of an f by g, greatest first, when that f first becomes the least,
+//!   and after `order_anew`. Entries that are put there later come first. No clause says so.
 //! - Where many boards are known, up to `BATCH` entries of one f take turns. `upcoming` answers
 //!   those that come next, and no clause says which these are.
 //! - `reserve_boards` asks for 64 boards at once, and only if that is refused for those needed.

@@ -5,7 +5,7 @@ ghost use Rattle.std.specs.Prelude.{OnErr};
 ghost use Rattle.std.specs.Prelude.{false, true, length, max, slice_index, slice_get, IfSome};
 ghost use Rattle.std.specs.Prelude.{IfNone, MatchOption, IsTrue, IsFalse};
 ghost use Rattle.std.specs.FinMap as map;
-ghost use Rattle.closed_table.specs.Tables.{IsTable, table_relaxation, table_closure};
+ghost use Rattle.closed_table.specs.Tables.{IsTable, empty_table, table_relaxation, table_closure};
 ghost use Rattle.closed_table.specs.declared.table.Relaxed.TheVariants.{Kept};
 ghost use Rattle.open_buckets.specs.declared.open.TheConstants.{GREATEST_F};
 ghost use Rattle.open_buckets.specs.OpenLists.{places_at, NothingWaits, IsLeastF, IsNextEntry};
@@ -118,6 +118,7 @@ impl SearchLists {
     /// another search needs no more until it is larger.
     pub fn clear(&mut self)
         ensures empty { HasMoreRoom empty_lists self.new }
+        ensures boards { self.new.closed ≡ empty_table }
         ensures places { (h : ℕ) → places_at self.old.waiting h ≤ places_at self.new.waiting h }
     {
         self.closed.clear();

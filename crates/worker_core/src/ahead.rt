@@ -163,8 +163,8 @@ fn fill<S: Spread>(
     read_all(batch, count, lists, context.me);
 }
 
-// Makes places for all boards that are taken together, where there is memory. What is there at
-// first is what the moves from the next board offer.
+// Makes places for all boards that are taken together, where there is memory. A new place first has
+// what the moves from the next board offer.
 fn make_batch<S: Spread>(
     batch: &mut Vec<Found>,
     context: &Context<'_, S>,

@@ -9,7 +9,7 @@ use message_ledger::{Allowance, Counting};
 use quiescence::Book;
 
 impl<C: Counting> Worker<C> {
-    /// Changes nothing, and tells that its purse is within the credit.
+    /// Changes nothing, and shows that its purse is within the credit.
     pub fn audit(&mut self, book: &mut Book<C>)
         requires counted { C.counts book.old.credit self.old.purse }
         ensures bound { (state_of self.old).purse ≤ book.old.credit }

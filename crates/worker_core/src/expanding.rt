@@ -1,6 +1,6 @@
 //! The step that expands a board.
 
-ghost use Rattle.std.specs.Prelude.{ℕ, ◌≡◌, ◌<◌, ◌≤◌, ◌+◌, length, IfSome, OnOk, OnErr};
+ghost use Rattle.std.specs.Prelude.{ℕ, ◌≡◌, ◌<◌, ◌≤◌, ◌+◌, length, IfSome};
 ghost use Rattle.std.specs.Prelude.{◌≢◌, Option};
 ghost use Rattle.std.specs.FinMap as map;
 ghost use Rattle.search_keys.specs.SearchKeys.{search_key};

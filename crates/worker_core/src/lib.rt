@@ -10,8 +10,8 @@
 //! - `Serves` is what `expand` asks of a worker, and `KeepsServing` what it keeps.
 //! - `expand` takes all successors (`All`), or leaves out the one back (`Onward`). For an only
 //!   worker both are the same step (`onward_steps_alone_are_whole`).
-//! - Memory is taken in `new`, `Queue::new`, `expand`, `settle` and `meet` alone, before the first
-//!   change. The last three are refused only where the lists lack places (`LacksPlacesToExpand`,
+//! - Memory is taken in `new`, `with_lists`, `Queue::new`, `expand`, `settle` and `meet` alone,
+//!   before the first change. The last three are refused only where the lists lack places (`LacksPlacesToExpand`,
 //!   `LacksPlaceFor`; laws `expansions_lack_places`, `places_for_own_offers_are_enough`,
 //!   `items_lack_a_place`).
 //! - `settle` drops a foreign item: of another shape, of another worker, or above `GREATEST_COST`.

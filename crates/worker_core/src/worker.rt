@@ -4,13 +4,9 @@ ghost use Rattle.std.specs.Prelude.{◌≡◌, ◌<◌, ◌≤◌, ◌+◌, IfOk
 ghost use Rattle.message_ledger.specs.Spending.{spent};
 ghost use Rattle.world_model.specs.declared.limits.TheConstants.{PACKET_LIMIT, WORKER_LIMIT};
 ghost use Rattle.world_model.specs.Costs.{limit_of};
-ghost use Rattle.world_model.specs.Openings.{idle_worker};
 ghost use Rattle.world_model.specs.Workers.{packet_for};
-ghost use Rattle.outcomes.specs.Outcomes.{Task};
 ghost use Rattle.search_lists.specs.Lists.{empty_lists, HasMoreRoom};
-ghost use Rattle.search_lists.specs.Orders.{Guide};
-ghost use Rattle.worker_core.specs.Roles.{IsGuideOf, IsGuided};
-ghost use Rattle.worker_core.specs.Workers.{state_of};
+ghost use Rattle.worker_core.specs.Workers.{state_of, BeginsWith};
 
 use crate::packets::{Items, new_packets};
 use arrayvec::ArrayVec;
@@ -46,21 +42,13 @@ impl<C: Counting> Worker<C> {
         allowance: Allowance<C>,
     ) -> Result<Self, OutOfMemory>
         requires { workers ≤ WORKER_LIMIT }
-        ensures state { IfOk result (λ worker. state_of worker ≡ record (idle_worker workers) {
-          purse = purse;
-          allowance = allowance.left;
-          expansions = spent allowance;
-        }) }
-        ensures lists { IfOk result (λ worker. worker.lists ≡ empty_lists) }
-        ensures guided { IfOk result (λ worker. (task : Task) (guide : Guide)
-            → IsGuideOf task guide → IsGuided task guide worker.lists) }
-        ensures allowance { IfOk result (λ worker. worker.allowance ≡ allowance) }
-        ensures workers { IfOk result (λ worker. length worker.unsent.items ≡ workers) }
+        ensures { IfOk result (BeginsWith workers purse allowance empty_lists) }
     {
         Worker::with_lists(alloc, workers, purse, allowance, SearchLists::new(alloc))
     }
 
-    /// The same with these lists. They know nothing, but may have memory from a search before.
+    /// One of `workers` workers with these lists. They know nothing, but may have memory from a
+    /// search before.
     pub fn with_lists(
         alloc: Global,
         workers: usize,
@@ -70,16 +58,7 @@ impl<C: Counting> Worker<C> {
     ) -> Result<Self, OutOfMemory>
         requires few { workers ≤ WORKER_LIMIT }
         requires empty { HasMoreRoom empty_lists lists }
-        ensures state { IfOk result (λ worker. state_of worker ≡ record (idle_worker workers) {
-          purse = purse;
-          allowance = allowance.left;
-          expansions = spent allowance;
-        }) }
-        ensures lists { IfOk result (λ worker. worker.lists ≡ lists) }
-        ensures guided { IfOk result (λ worker. (task : Task) (guide : Guide)
-            → IsGuideOf task guide → IsGuided task guide worker.lists) }
-        ensures allowance { IfOk result (λ worker. worker.allowance ≡ allowance) }
-        ensures workers { IfOk result (λ worker. length worker.unsent.items ≡ workers) }
+        ensures { IfOk result (BeginsWith workers purse allowance lists) }
     {
         let unsent = new_packets(alloc, workers)?;
         Ok(Worker {

@@ -19,7 +19,7 @@ pub fn call(alloc: Global, name: &str) -> Option<Answer> {
 
 // Whether the least f of an open list is 2, and its next entry has key 7 and cost 1.
 fn has_one_entry(open: &Open<u32>) -> bool {
-    open.lowest() == Some(2) && open.peek_lowest(3) == Some((7, 1))
+    open.lowest() == Some(2) && open.last_at(2) == Some((7, 1))
 }
 
 // Makes places in an open list that has an entry.

@@ -1,4 +1,4 @@
-use Rattle.std.proofs.Common.{ℕ, ◌<◌, length, sym, ◌∙◌, subst}
+use Rattle.std.proofs.Common.{◌<◌, length, sym, ◌∙◌, subst}
 use Rattle.closed_table.specs.Tables.{ClosedModel}
 use Rattle.search_lists.proofs.lists.SearchLists.reserve_boards.Goals as goal
 
