@@ -35,7 +35,7 @@ use Rattle.world_model.specs.declared.steps.Refusal.{Refusal}
 use Rattle.world_model.specs.declared.steps.Step.{Step}
 use Rattle.world_model.specs.declared.steps.Step.TheVariants.{Expand, Settle, Send, Deliver, Draw, Announce, Grant, Rest, Halt}
 use Rattle.world_model.specs.Steps.{IsRun, Next, with_lane}
-use Rattle.world_model.specs.Turns.{Turn, turn}
+use Rattle.world_model.specs.Turns.{turn}
 use Rattle.world_model.specs.Workers.{WorkerState, Lane, Packet, packet_for}
 use Rattle.world_model.proofs.ChangeLemmas.{cons_cases, none_in_empty, lane_there, worker_there}
 use Rattle.world_model.proofs.RestLemmas.{books_are_left, lanes_are_left}
@@ -45,8 +45,7 @@ use Rattle.world_ends.specs.Readings.{HasBoundOf, IsForParity}
 use Rattle.hda_run.specs.WholeRuns.{IsOfWholeRun, EndsWholeRun, HasWholeRun}
 use Rattle.hda_run.specs.Alone.{AreLast, IsRunAlone, HaltsNowhere, IsHalt}
 use Rattle.hda_run.specs.Headline.{TellsTruth, IsTrueOfBest}
-use Rattle.hda_run.specs.Jobs.{JobModel, HasOneShape, task_in}
-use Rattle.hda_run.specs.Kinds.{step_kind_of}
+use Rattle.hda_run.specs.Jobs.{JobModel, task_in}
 use Rattle.hda_run.specs.Laws.{BookChangesByFiveKinds, BoundsSpendTheLimit, BoundTruthsAreBelow, HaltsAreDue, JobsAreOfAnyShape, LanesChangeByTwoKinds, OtherLanesAreLeft, SentItemsArrive, OptimalTruthsAgree, OutcomesAreOfAllTheirSteps, OutcomesAreOfTheirSteps, QuietRunsHaveNoHalt, RunsAloneStop, TrueBoundsHaveProofs, TruePlansLead, TrueRowsProve, TrueRowsProveBounds, UnsolvableTruthsHaveNoPlan, WithoutRowsMemoryWasRefused}
 use Rattle.hda_run.proofs.AloneLemmas.{Made}
 

@@ -1,9 +1,10 @@
 -- The parts of a world: what they are in an opening, and what changes in a step.
 use Rattle.std.proofs.Common.{◌≡◌, ℕ, zero, suc, ⊎_elim, ◌+◌, ◌<◌, ◌≤◌, List, [], ◌∷◌, length, map, get_or, set, refl, sym, ap, ◌∙◌, subst, inr, arith, Option, Some, ◌≢◌, ◌⊎◌, inl, ◌++◌, replicate, false}
-use Rattle.std.specs.Prelude.{Bool, IsTrue, ◌↔◌, slice_get, All, Vec, slice_set, unwrap_or, if◌then◌else◌}
+use Rattle.std.specs.Prelude.{take, drop, Bool, IsTrue, ◌↔◌, slice_get, All, Vec, slice_set, unwrap_or, if◌then◌else◌}
 use Rattle.std.specs.FinMap as fin
 use Rattle.std.specs.Vec.{with_item, vec_len}
 use Rattle.std.specs.declared.alloc.Global.{Global}
+use Rattle.std.proofs.Math.Seq.{take-append_seam}
 use Rattle.std.proofs.lemmas.Bool.{cases_lt, true≢false}
 use Rattle.std.proofs.lemmas.List.{map-set, length-map, length-set, map-append, length-replicate, replicate-append-replicate}
 use Rattle.std.proofs.lemmas.List.Elements.{All-set, All-append}
@@ -20,6 +21,7 @@ use Rattle.world_model.specs.BookSteps.{AtBook}
 use Rattle.world_model.specs.Credit.{IsCredited}
 use Rattle.world_model.specs.Shapes.{IsShaped, IsTask}
 use Rattle.world_model.specs.Soundness.{IsSound}
+use Rattle.world_ends.specs.Parts.{states_of}
 use Rattle.world_model.specs.Steps.{ByWorker, OnBook, with_worker, OnLane, lane_ends, with_lane, Next}
 use Rattle.world_model.specs.Turns.{Turn, turn}
 use Rattle.world_model.specs.Workers.{WorkerState, Lane}
@@ -57,6 +59,12 @@ use Rattle.world_model.proofs.RunLemmas.{steps_alike}
 -- a worker that counts by whole numbers
 abbrev pub W : Type 0
 W = Worker Plain ℕ ℕ ℕ ℕ
+
+-- workers in the place of as many in a list, where they have the same states
+pub states_in_place : (old : Vec W Global) (new : List W) → states_of new ≡ states_of old.items → states_of (take old.len (new ++ drop (length new) old.items)) ≡ states_of old.items
+states_in_place old new same =
+    let size : length new ≡ length old.items = sym (length-map new (λ w. state_of w)) ∙ ap length same ∙ length-map old.items (λ w. state_of w) in
+    ap (λ (k : ℕ). states_of (take k (new ++ drop (length new) old.items))) (old.ok.0 ∙ sym size) ∙ ap (λ (ws : List W). states_of ws) (take-append_seam new (drop (length new) old.items)) ∙ same
 
 -- a place below the length that the code reads is one in the list
 pub inside : {X : Type 0} (v : Vec X Global) (n i : ℕ) → n ≡ vec_len v → i < n → i < length v.items

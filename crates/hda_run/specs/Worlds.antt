@@ -1,5 +1,5 @@
 -- What contracts see of a world.
-use Rattle.std.specs.Prelude.{ℕ, ◌≡◌, ◌≢◌, ◌<◌, ◌≤◌, [], All, length, map, slice_index_or}
+use Rattle.std.specs.Prelude.{ℕ, ◌≡◌, ◌≢◌, ◌<◌, ◌≤◌, [], ◌∷◌, List, All, length, map, slice_index_or}
 use Rattle.board.specs.Boards.{BoardModel}
 use Rattle.owners.specs.Terms.{TermsModel}
 use Rattle.search_lists.specs.Lists.{SearchListsModel}
@@ -12,6 +12,7 @@ use Rattle.world_model.specs.Credit.{IsCredited}
 use Rattle.world_model.specs.Openings.{Job}
 use Rattle.world_model.specs.Shapes.{IsShaped}
 use Rattle.world_model.specs.Soundness.{IsSound}
+use Rattle.world_model.specs.Workers.{WorkerState}
 use Rattle.world_model.specs.Worlds.{WorldState}
 use Rattle.hda_run.specs.declared.parts.Parts.{Parts}
 use Rattle.hda_run.specs.Jobs.{JobModel, task_in}
@@ -25,6 +26,10 @@ world_of owner_of parts = record {
   book = parts.book;
   lanes = map (λ to_each. to_each.items) parts.lanes.items;
 }
+
+-- where one of these workers is alone, the lists know what it knows
+abbrev pub KnowWhatOneKnows : List WorkerState → SearchListsModel → Type 0
+KnowWhatOneKnows workers lists = (worker : WorkerState) → workers ≡ worker ∷ [] → lists.closed.known ≡ worker.known
 
 -- the lists of each worker are guided to the goal
 abbrev pub AreGuided : {S : Type 0} → Parts S → Type 0

@@ -1,6 +1,6 @@
 //! Jobs that one worker does alone.
 
-ghost use Rattle.std.specs.Prelude.{ℕ, ◌≡◌, ◌≢◌, ◌↔◌, ◌<◌, Ok, IfOk, IfErr};
+ghost use Rattle.std.specs.Prelude.{ℕ, ◌≡◌, ◌≢◌, ◌⊎◌, ◌↔◌, ◌<◌, ◌≤◌, Ok, IfOk, IfErr, length};
 ghost use Rattle.std.specs.Prelude.{IsOk, IsTrue, Option, Vec};
 ghost use Rattle.std.specs.declared.alloc.Global.{Global};
 ghost use Rattle.board.specs.Boards.{BoardModel};
@@ -22,6 +22,8 @@ ghost use Rattle.hda_run.specs.Alone.{IsRunAlone, IsFoundAlone};
 ghost use Rattle.hda_run.specs.Jobs.{task_in};
 ghost use Rattle.hda_run.specs.Rounds.{IsLone, Reaches, work_left, RefusesStep, IsStuck};
 ghost use Rattle.hda_run.specs.Rounds.{IsBoundSoFar, Stops};
+ghost use Rattle.open_buckets.specs.OpenLists.{places_at};
+ghost use Rattle.hda_run.specs.declared.alone.TheConstants.{KEPT_BOARDS};
 ghost use Rattle.hda_run.specs.WholeRuns.{EndsWholeRun, HasWholeRun};
 ghost use Rattle.hda_run.specs.Worlds.{world_of, job_of};
 
@@ -76,7 +78,8 @@ pub fn solve_one<'a, S: Spread, G: Gate>(
     read_one::<WithRows, S, G>(alloc, job, spread, gate)
 }
 
-/// The same in each reading, without rows or with them.
+/// Solves a job by one worker as `solve_one`, and reads the answer without rows or with them. The
+/// error: out of memory for the opening world.
 pub fn read_one<'a, A: Reading, S: Spread, G: Gate>(
     alloc: Global,
     job: Job<'a>,
@@ -92,10 +95,10 @@ pub fn read_one<'a, A: Reading, S: Spread, G: Gate>(
     read_one_over::<A, S, G>(alloc, job, spread, gate, &mut SearchLists::new(alloc))
 }
 
-/// The same over lists whose memory is kept from one job to the next, so that a job asks for memory
-/// only where it needs more than those before. What the lists know is forgotten first, and no
-/// contract speaks of what they know afterwards. Where that is more than `KEPT_BOARDS` boards, they
-/// are replaced by new ones, so that a hard job doesn't keep its memory.
+/// Solves a job as `read_one`, over lists whose memory is kept from one job to the next: a job asks
+/// for memory only where it needs more than those before. What the lists know is forgotten first.
+/// Where they know more than `KEPT_BOARDS` boards afterwards, they are replaced by new ones, so that
+/// a hard job doesn't keep its memory.
 pub fn read_one_over<'a, A: Reading, S: Spread, G: Gate>(
     alloc: Global,
     job: Job<'a>,
@@ -103,6 +106,7 @@ pub fn read_one_over<'a, A: Reading, S: Spread, G: Gate>(
     gate: &G,
     lists: &mut SearchLists,
 ) -> Result<A::Answer, OutOfMemory>
+    ensures few { (length lists.new.closed.keys ≤ KEPT_BOARDS) ⊎ (lists.new ≡ lists.old) }
     ensures parity { (result ≡ Ok A.parity) ↔ (¬ SameClass job.entry.start job.entry.goal) }
     ensures run { SameClass job.entry.start job.entry.goal
         → IfOk result (IsFoundAlone A.gives S.owner_of job.entry spread.now) }
@@ -119,7 +123,7 @@ pub fn read_one_over<'a, A: Reading, S: Spread, G: Gate>(
     search_over::<A, S, G>(alloc, job, spread, gate, lists)
 }
 
-/// The same by a search, whatever the class of the start.
+/// Solves a job as `read_one`, but searches also where the start isn't in the goal's class.
 pub fn search_one<'a, A: Reading, S: Spread, G: Gate>(
     alloc: Global,
     job: Job<'a>,
@@ -133,7 +137,7 @@ pub fn search_one<'a, A: Reading, S: Spread, G: Gate>(
     search_over::<A, S, G>(alloc, job, spread, gate, &mut SearchLists::new(alloc))
 }
 
-// The same over lists whose memory is kept.
+// Searches over lists whose memory is kept.
 fn search_over<'a, A: Reading, S: Spread, G: Gate>(
     alloc: Global,
     job: Job<'a>,
@@ -141,6 +145,7 @@ fn search_over<'a, A: Reading, S: Spread, G: Gate>(
     gate: &G,
     lists: &mut SearchLists,
 ) -> Result<A::Answer, OutOfMemory>
+    ensures few { length lists.new.closed.keys ≤ KEPT_BOARDS }
     ensures run { IfOk result (IsFoundAlone A.gives S.owner_of job.entry spread.now) }
     ensures answers { IfOk result (A.answers (task_in job.entry)) }
     ensures kept { IfOk result (λ answer. EndsWholeRun (A.end answer)) }
@@ -159,7 +164,9 @@ fn search_over<'a, A: Reading, S: Spread, G: Gate>(
 
 // Takes lists out of their place, where new ones are left, and forgets what they know.
 fn take_empty(alloc: Global, lists: &mut SearchLists) -> SearchLists
-    ensures { HasMoreRoom empty_lists result }
+    ensures empty { HasMoreRoom empty_lists result }
+    ensures places { (h : ℕ) → places_at lists.old.waiting h ≤ places_at result.waiting h }
+    ensures left { lists.new ≡ empty_lists }
 {
     let mut taken = replace(lists, SearchLists::new(alloc));
     taken.clear();
@@ -167,7 +174,10 @@ fn take_empty(alloc: Global, lists: &mut SearchLists) -> SearchLists
 }
 
 // Replaces lists by new ones where they know more than `KEPT_BOARDS` boards.
-fn drop_large(alloc: Global, lists: &mut SearchLists) {
+fn drop_large(alloc: Global, lists: &mut SearchLists)
+    ensures few { length lists.new.closed.keys ≤ KEPT_BOARDS }
+    ensures kept { length lists.old.closed.keys ≤ KEPT_BOARDS → lists.new ≡ lists.old }
+{
     if lists.len() > KEPT_BOARDS {
         *lists = SearchLists::new(alloc);
     }
@@ -211,8 +221,8 @@ fn go_on<S: Spread, G: Gate>(alloc: Global, world: &mut World<'_, S>, gate: &G) 
     }
 }
 
-// The worker expands a board, or is granted expansions where it has no allowance. A goal that is
-// known is announced soon, so that boards above its cost are not expanded.
+// The worker expands a board, or is granted expansions where it has no allowance. A goal that
+// is met is announced at once, so that boards above its cost are not expanded.
 fn round<S: Spread, G: Gate>(alloc: Global, world: &mut World<'_, S>, gate: &G) -> Result<(), End>
     requires { IsLone (world_of S.owner_of world.old) }
     ensures run { Reaches (world_of S.owner_of world.old) (world_of S.owner_of world.new) }

@@ -1,6 +1,6 @@
 //! The end of a run in a world.
 
-ghost use Rattle.std.specs.Prelude.{◌≡◌, ℕ, Contains, Vec};
+ghost use Rattle.std.specs.Prelude.{◌≡◌, ℕ, Contains, Vec, map};
 ghost use Rattle.std.specs.declared.alloc.Global.{Global};
 ghost use Rattle.lower_bound.specs.Bounds.{sum_of};
 ghost use Rattle.lower_bound.specs.Tables.{parts_of};
@@ -10,7 +10,8 @@ ghost use Rattle.world_model.specs.Workers.{Packet, Lane};
 ghost use Rattle.world_ends.specs.Lowest.{IsLeastBeside, IsOfItem, AreItemsOn};
 ghost use Rattle.hda_run.specs.Jobs.{task_in};
 ghost use Rattle.hda_run.specs.Lanes.{IsOfOne, IsInLane, IsInLanes};
-ghost use Rattle.hda_run.specs.Worlds.{world_of, IsLawful};
+ghost use Rattle.worker_core.specs.Workers.{state_of};
+ghost use Rattle.hda_run.specs.Worlds.{world_of, IsLawful, KnowWhatOneKnows};
 
 use crate::job::Job;
 use crate::parts::Parts;
@@ -27,7 +28,7 @@ use world_model::laws::quiet_is_true;
 
 impl<'a, S: Spread> World<'a, S> {
     /// The outcome that the world gives, at any moment: a plan of least cost with rows that prove
-    /// it, the word that there is no plan, or a bound that no plan undercuts, with rows that prove
+    /// it, the answer that there is no plan, or a bound that no plan undercuts, with rows that prove
     /// it. It takes memory for the plan and the rows alone: none where the goal is unknown, if the
     /// frontier is empty or the bound is the start's sum (`bounds_have_rows` of `world_model`).
     pub fn finish(self, alloc: Global) -> Outcome
@@ -45,10 +46,12 @@ impl<'a, S: Spread> World<'a, S> {
         self.read_into::<A>(alloc, &mut SearchLists::new(alloc))
     }
 
-    // The same. The lists of its last worker are handed out, so that their memory is kept.
+    // What the world gives, in a reading. The lists of its last worker are handed out, so that their
+    // memory is kept.
     pub(crate) fn read_into<A: Reading>(self, alloc: Global, lists: &mut SearchLists) -> A::Answer
         ensures given { A.gives (world_of S.owner_of self.entry) result }
         ensures answers { A.answers (task_in self.entry.job) result }
+        ensures lists { KnowWhatOneKnows (world_of S.owner_of self.entry).workers lists.new }
     {
         A::keep_laws();
         quiet_is_true();
@@ -65,7 +68,8 @@ fn read_parts<A: Reading, S: Spread>(
     lists: &mut SearchLists,
 ) -> A::Answer
     requires { IsLawful S.owner_of parts }
-    ensures { A.gives (world_of S.owner_of parts.entry) result }
+    ensures given { A.gives (world_of S.owner_of parts.entry) result }
+    ensures lists { KnowWhatOneKnows (world_of S.owner_of parts.entry).workers lists.new }
 {
     let Parts {
         job,
@@ -86,7 +90,9 @@ fn read_parts<A: Reading, S: Spread>(
 }
 
 // Puts the lists of the last worker in the place of others.
-fn hand_out(workers: Vec<Worker<Plain>>, lists: &mut SearchLists) {
+fn hand_out(workers: Vec<Worker<Plain>>, lists: &mut SearchLists)
+    ensures { KnowWhatOneKnows (map (λ worker. state_of worker) workers.items) lists.new }
+{
     let mut workers = workers;
     if let Some(last) = workers.pop() {
         *lists = last.into_lists();

@@ -1,4 +1,4 @@
-//! Gates, by which whoever runs a world decides which step comes next.
+//! Gates, which are called after each accepted step of a worker. A test may hold a worker there.
 
 ghost use Rattle.std.specs.Prelude.{◌≡◌, ⊤, IsTrue};
 ghost use Rattle.hda_run.specs.Kinds as kinds;
@@ -51,7 +51,7 @@ pub fn kind_of(step: Step) -> Kind
 /// What a worker passes after each step that is accepted, while it holds no lock: a test may hold
 /// it there, to try an order of steps. It is also shown how far the search is.
 pub trait Gate {
-    // A bound is wanted: for any gate this follows from `wants_bound` alone.
+    // A bound is wanted. `wants_bound` is the only call that establishes it.
     ghost is_wanted: { Self → Type 0 } = { λ _. ⊤ };
 
     /// Returns when the worker that took the step may go on.

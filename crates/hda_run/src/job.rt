@@ -88,7 +88,7 @@ impl<'a> Job<'a> {
         self.goal.board()
     }
 
-    /// The same board, with its search key.
+    /// The goal, with its search key.
     pub fn keyed_goal(&self) -> &Goal
         ensures value { result.now ≡ self.now.goal }
         ensures task { IsTask (task_in self.now) }

@@ -2,7 +2,8 @@
 //! Fukunaga, Botea 2013).
 //!
 //! - A `Job` is seen as a `JobModel`; its type keeps that shapes agree and tables are potentials,
-//!   so sums are lower bounds. A `World` keeps shaped, sound, credited and guided.
+//!   so sums are lower bounds. A `World` keeps `IsLawful`: it is shaped, sound and credited, and
+//!   each worker's lists are in order by the guide.
 //! - `World::new`, `step`, `run_steps`, `finish` for replays, `read` in each reading; `solve_one`
 //!   and `read_one` for one worker, `search_one` compares no classes. `read_one_over` keeps memory
 //!   from one job to the next. `run_and_finish` states the main theorem.

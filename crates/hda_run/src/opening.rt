@@ -65,8 +65,8 @@ pub(crate) fn open_parts<'a, S: Spread>(
     })
 }
 
-// As many workers as are asked for: this one at a place, and at all others one that knows nothing
-// and has nothing. For one worker alone, as each short search makes it, no other is made.
+// The workers of an opening world: this one at a place, and idle ones at all others. Where there is
+// one worker alone, no other one is made.
 fn workers_with(
     alloc: Global,
     workers: usize,

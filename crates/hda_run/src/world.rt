@@ -37,7 +37,7 @@ use world_model::{Refusal, Step, WORKER_LIMIT};
 #[derive(Drop)]
 pub struct World<'a, S: Spread> {
     pub(crate) parts: Parts<'a, S>,
-    // What moves offer, found before they are made. No contract speaks of it.
+    // What moves offer, found before they are made. No public contract speaks of it.
     pub(crate) ahead: Ahead,
 }
 

@@ -1,5 +1,5 @@
 -- The bounds that a board may be answered.
-use Rattle.std.proofs.Common.{arith, ℕ, ◌≡◌, ◌≤◌, ◌+◌, ◌*◌, ◌++◌, List, Option, Vec, ◌∙◌, ◌⊎◌, refl, ap, subst, inl, inr}
+use Rattle.std.proofs.Common.{arith, ℕ, ⊥, ◌≡◌, ◌<◌, ◌≤◌, ◌+◌, ◌*◌, ◌++◌, List, Option, Vec, ◌∙◌, ◌⊎◌, refl, ap, subst, inl, inr}
 use Rattle.std.specs.declared.alloc.Global.{Global}
 use Rattle.board.specs.declared.moves.Move.{Move}
 use Rattle.board.specs.Boards.{BoardModel}
@@ -12,7 +12,7 @@ use Rattle.world_model.specs.Steps.{IsRun}
 use Rattle.world_model.specs.Worlds.{WorldState}
 use Rattle.world_ends.specs.Endings.{EndsIn}
 use Rattle.world_ends.specs.Readings.{EndsWithFigures}
-use Rattle.hda_run.specs.Alone.{IsFoundAlone}
+use Rattle.hda_run.specs.Alone.{IsFoundAlone, IsRunAlone}
 use Rattle.outcomes.specs.declared.outcome.Cause.{Cause}
 use Rattle.outcomes.specs.declared.outcome.Cause.TheVariants.{Limit, Memory}
 use Rattle.outcomes.specs.declared.outcome.Want.{Want}
@@ -21,9 +21,12 @@ use Rattle.world_model.specs.Credit.{expansion_count}
 use Rattle.world_model.specs.declared.limits.TheConstants.{GREATEST_GRANT}
 use Rattle.world_ends.proofs.PartLemmas.{ends_bounded}
 use Rattle.world_model.proofs.KeptLemmas.{causes_stop}
-use Rattle.batch_runs.specs.Setups.{SetupModel, owner_by}
+use Rattle.world_model.proofs.RunLemmas.{run_alike}
+use Rattle.world_model.specs.Outcomes.{IsGiven}
+use Rattle.outcomes.specs.Endings.{without_rows}
+use Rattle.batch_runs.specs.Setups.{SetupModel, owner_by, task_of_setup}
 use Rattle.setup_runs.specs.Ahead.{LacksMemory}
-use Rattle.setup_runs.specs.Laws.{EndedAloneIsWhole, MemoryIsLacked, StatsAreOfTheSetups, job_by, BoundsAreNeverCut, LimitsAreTheSetups, LimitsAreNearlySpent, StatsAreOfWorlds, StatsAreWithinTheLimit, FiguresAreOfBoards}
+use Rattle.setup_runs.specs.Laws.{AnswersAreOfWorlds, CertifiedOutcomesAreOfWorlds, HardBoardsAreShared, HardBoardsAreBounded, EndedAloneIsWhole, MemoryIsLacked, StatsAreOfTheSetups, job_alone, BoundsAreNeverCut, LimitsAreTheSetups, LimitsAreNearlySpent, StatsAreOfWorlds, StatsAreWithinTheLimit, FiguresAreOfBoards}
 use Rattle.std.specs.FinMap as map
 use Rattle.std.specs.Prelude.{min, ◌^◌, ◌-◌, sum_by}
 use Rattle.board.specs.Classes.{SameClass}
@@ -31,6 +34,57 @@ use Rattle.world_ends.specs.declared.figures.Figures.{Figures}
 use Rattle.batch_runs.specs.declared.stats.Solved.{Solved}
 use Rattle.setup_runs.specs.Solving.{problem_of, problem_within, IsFound, IsFoundByOne, IsFoundWithin, IsNoBound}
 use Rattle.hda_run.proofs.LawLemmas.{one_class}
+
+-- the world of a run by one worker has the board's task
+task_alone : (limit : ℕ) (setup : SetupModel) (b : BoardModel) (w : WorldState) → IsRunAlone (job_of owner_by (problem_within limit setup b) setup.spread 1) w → w.task ≡ task_of_setup setup b
+task_alone limit setup b w run = (run_alike (opening (job_of owner_by (problem_within limit setup b) setup.spread 1) run.via) (run.first ++ run.last) w run.run).0
+
+-- what is found is of a world of the board's task
+found_of_world :
+    {X : Type 0} (gives : WorldState → X → Type 0) (end : X → Ending) (setup : SetupModel) (b : BoardModel) (answer : X)
+    → IsFound gives end setup b answer
+    → (w : WorldState) × (w.task ≡ task_of_setup setup b) × gives w answer × (expansion_count w ≤ setup.limit)
+found_of_world {X} gives end setup b answer = by_run
+  where
+    alone : (limit : ℕ) → limit ≤ setup.limit → IsFoundAlone gives owner_by (problem_within limit setup b) setup.spread answer → (w : WorldState) × (w.task ≡ task_of_setup setup b) × gives w answer × (expansion_count w ≤ setup.limit)
+    alone limit within (w, run, given) = (w, task_alone limit setup b w run, given, let few = run.within_limit in omega (arith, few, within))
+
+    by_run : IsFound gives end setup b answer → (w : WorldState) × (w.task ≡ task_of_setup setup b) × gives w answer × (expansion_count w ≤ setup.limit)
+    by_run (inl (inl (several, (w, joined, (kept, given))))) = (w, joined.task, given, joined.within_limit)
+    by_run (inl (inr (run, left))) = alone setup.limit (omega arith) run
+    by_run (inr (limit, found)) = alone limit found.within found.run
+
+pub answers_of_worlds : AnswersAreOfWorlds
+answers_of_worlds setup b ending same (answers, inl (together, run)) = found_of_world EndsIn (λ it. it) setup b ending run.0
+answers_of_worlds setup b ending same (answers, inr (other, is)) = absurd (other same)
+
+pub certified_of_worlds : CertifiedOutcomesAreOfWorlds
+certified_of_worlds setup b given same (answers, inl (together, run)) = found_of_world IsGiven without_rows setup b given run.0
+certified_of_worlds setup b given same (answers, inr (other, is)) = absurd (other same)
+
+pub hard_shared : HardBoardsAreShared
+hard_shared setup start found several (inl shared) hard = shared
+hard_shared setup start found several (inr (limit, by)) hard = absurd (too_hard hard by.whole)
+  where
+    few : limit ≤ 2000000
+    few = by.few several
+
+    spent : found.figures.expanded ≤ 2000000
+    spent = by_run by.run
+      where
+        by_run : IsFoundAlone EndsWithFigures owner_by (problem_within limit setup start) setup.spread found → found.figures.expanded ≤ 2000000
+        by_run (w, run, gives) = let within = run.within_limit in let is = gives.1.expanded in omega (arith, few, within, is)
+
+    too_hard : (2000000 < found.figures.expanded) ⊎ ((2000000 < setup.limit) × (¬ IsNoBound found.ending)) → (limit ≡ setup.limit) ⊎ ((2 ≤ setup.workers) × IsNoBound found.ending) → ⊥
+    too_hard (inl many) whole = absurd (omega (arith, many, spent))
+    too_hard (inr (more, bound)) (inl e) = absurd (omega (arith, more, few, e))
+    too_hard (inr (more, bound)) (inr (others, none)) = bound none
+
+pub hard_bounded : HardBoardsAreBounded
+hard_bounded setup start hard = by_run hard.run
+  where
+    by_run : IsFoundAlone EndsWithFigures owner_by (problem_within 2000000 setup start) setup.spread hard.found → (2000000 < setup.limit) × (w : WorldState) × (ending : Ending) × (w.task ≡ task_of_setup setup start) × EndsIn w ending × (¬ IsNoBound ending) × (¬ LacksMemory ending) × (expansion_count w ≤ 2000000)
+    by_run (w, run, gives) = (hard.more, w, hard.found.ending, task_alone 2000000 setup start w run, gives.0, hard.bound, hard.whole, run.within_limit)
 
 pub never_cut : BoundsAreNeverCut
 never_cut setup b bound best cause (answers, inl (same, run)) = run.1
@@ -40,10 +94,10 @@ never_cut setup b bound best cause (answers, inr (other, is)) = absurd (cc)
 limits_alone :
     (setup : SetupModel) (b : BoardModel) (bound : ℕ) (best : Option (ℕ × Vec Move Global))
     → IsFoundAlone EndsIn owner_by (problem_of setup b) setup.spread (Bounded bound best Limit)
-    → (owner : BoardModel → ℕ) × (via : Move) × (made : List (Step × Option Refusal)) × (w : WorldState)
-    × IsRun (opening (job_by owner setup b) via) made w × (expansion_count w ≡ setup.limit)
+    → (via : Move) × (made : List (Step × Option Refusal)) × (w : WorldState)
+    × IsRun (opening (job_alone setup b) via) made w × EndsIn w (Bounded bound best Limit) × (expansion_count w ≡ setup.limit)
 limits_alone setup b bound best (w, run, given) =
-    ((job_of owner_by (problem_of setup b) setup.spread 1).owner, run.via, run.first ++ run.last, w, run.run, run.spent ((causes_stop w bound best Limit (ends_bounded w bound best Limit given)).0 refl))
+    (run.via, run.first ++ run.last, w, run.run, given, run.spent ((causes_stop w bound best Limit (ends_bounded w bound best Limit given)).0 refl))
 
 -- where one worker ends a board with a bound, its limit is the setup's
 bounds_alone :
@@ -69,37 +123,37 @@ all_spent limit spent more e = omega (arith, e)
 nearly_alone :
     (setup : SetupModel) (b : BoardModel) (bound : ℕ) (best : Option (ℕ × Vec Move Global))
     → IsFoundAlone EndsIn owner_by (problem_of setup b) setup.spread (Bounded bound best Limit)
-    → (w : WorldState) × EndsIn w (Bounded bound best Limit)
+    → (w : WorldState) × (w.task ≡ task_of_setup setup b) × EndsIn w (Bounded bound best Limit)
     × (expansion_count w ≤ setup.limit) × (setup.limit ≤ expansion_count w + GREATEST_GRANT * setup.workers)
 nearly_alone setup b bound best (w, run, given) =
-    (w, given, run.within_limit, all_spent setup.limit (expansion_count w) (GREATEST_GRANT * setup.workers) (run.spent ((causes_stop w bound best Limit (ends_bounded w bound best Limit given)).0 refl)))
+    (w, task_alone setup.limit setup b w run, given, run.within_limit, all_spent setup.limit (expansion_count w) (GREATEST_GRANT * setup.workers) (run.spent ((causes_stop w bound best Limit (ends_bounded w bound best Limit given)).0 refl)))
 
 pub limits_nearly : LimitsAreNearlySpent
 limits_nearly setup b bound best (answers, inl (same, (inl (inl (several, (w, joined, (kept_world, given)))), kept))) =
-    (w, given, joined.within_limit, (joined.at_limit ((causes_stop w bound best Limit (ends_bounded w bound best Limit given)).0 refl)).1)
+    (w, joined.task, given, joined.within_limit, (joined.at_limit ((causes_stop w bound best Limit (ends_bounded w bound best Limit given)).0 refl)).1)
 limits_nearly setup b bound best (answers, inl (same, (inl (inr (run, left)), kept))) = nearly_alone setup b bound best run
 limits_nearly setup b bound best (answers, inl (same, (inr run, kept))) = nearly_alone setup b bound best (bounds_alone setup b bound best run)
 limits_nearly setup b bound best (answers, inr (other, is)) = absurd (cc)
 
--- the stats count what a world has expanded, and knows, and this world ends so
-abbrev Counts : Solved → Type 0
-Counts solved = (w : WorldState) × EndsIn w solved.ending × (solved.stats.expanded ≡ min (expansion_count w) (2 ^ 64 - 1)) × (solved.stats.known ≡ min (sum_by (λ worker. map.len worker.known) w.workers) (2 ^ 64 - 1))
+-- the stats count what a world of the board's task has expanded, and knows, and this world ends so
+abbrev Counts : SetupModel → BoardModel → Solved → Type 0
+Counts setup start solved = (w : WorldState) × (w.task ≡ task_of_setup setup start) × EndsIn w solved.ending × (solved.stats.expanded ≡ min (expansion_count w) (2 ^ 64 - 1)) × (solved.stats.known ≡ min (sum_by (λ worker. map.len worker.known) w.workers) (2 ^ 64 - 1))
 
 pub stats_of_worlds : StatsAreOfWorlds
 stats_of_worlds setup start solved (figures, of_run, stats) = (of_world, no_run, stats.start_sum)
   where
-    counted : (w : WorldState) → EndsWithFigures w (record { ending = solved.ending; figures = figures }) → Counts solved
-    counted w gives = (w, gives.0, stats.expanded ∙ ap (λ k. min k (2 ^ 64 - 1)) gives.1.expanded, stats.known ∙ ap (λ k. min k (2 ^ 64 - 1)) gives.1.known)
+    counted : (w : WorldState) → w.task ≡ task_of_setup setup start → EndsWithFigures w (record { ending = solved.ending; figures = figures }) → Counts setup start solved
+    counted w task gives = (w, task, gives.0, stats.expanded ∙ ap (λ k. min k (2 ^ 64 - 1)) gives.1.expanded, stats.known ∙ ap (λ k. min k (2 ^ 64 - 1)) gives.1.known)
 
-    by_one : (limit : ℕ) → IsFoundAlone EndsWithFigures owner_by (problem_within limit setup start) setup.spread (record { ending = solved.ending; figures = figures }) → Counts solved
-    by_one limit (w, run, gives) = counted w gives
+    by_one : (limit : ℕ) → IsFoundAlone EndsWithFigures owner_by (problem_within limit setup start) setup.spread (record { ending = solved.ending; figures = figures }) → Counts setup start solved
+    by_one limit (w, run, gives) = counted w (task_alone limit setup start w run) gives
 
-    by_run : IsFound EndsWithFigures (λ it. it.ending) setup start (record { ending = solved.ending; figures = figures }) → Counts solved
-    by_run (inl (inl (several, (w, joined, (kept, gives))))) = counted w gives
+    by_run : IsFound EndsWithFigures (λ it. it.ending) setup start (record { ending = solved.ending; figures = figures }) → Counts setup start solved
+    by_run (inl (inl (several, (w, joined, (kept, gives))))) = counted w joined.task gives
     by_run (inl (inr (run, left))) = by_one setup.limit run
     by_run (inr (limit, found)) = by_one limit found.run
 
-    of_world : SameClass start setup.goal → Counts solved
+    of_world : SameClass start setup.goal → Counts setup start solved
     of_world together = by_run (of_run.run together)
 
     no_run : (¬ SameClass start setup.goal) → (solved.stats.expanded ≡ 0) × (solved.stats.known ≡ 0)
@@ -108,14 +162,14 @@ stats_of_worlds setup start solved (figures, of_run, stats) = (of_world, no_run,
 -- so do those of one worker, whose steps begin at the opening world
 abbrev CountsAlone : SetupModel → BoardModel → Solved → Type 0
 CountsAlone setup start solved =
-    (owner : BoardModel → ℕ) × (via : Move) × (made : List (Step × Option Refusal)) × (w : WorldState)
-    × IsRun (opening (job_by owner setup start) via) made w × EndsIn w solved.ending × (solved.stats.expanded ≡ min (expansion_count w) (2 ^ 64 - 1))
+    (via : Move) × (made : List (Step × Option Refusal)) × (w : WorldState)
+    × IsRun (opening (job_alone setup start) via) made w × EndsIn w solved.ending × (solved.stats.expanded ≡ min (expansion_count w) (2 ^ 64 - 1))
 
 pub stats_of_setups : StatsAreOfTheSetups
 stats_of_setups setup start solved one together (figures, of_run, stats) = by_run (of_run.run together)
   where
     by_one : IsFoundAlone EndsWithFigures owner_by (problem_of setup start) setup.spread (record { ending = solved.ending; figures = figures }) → CountsAlone setup start solved
-    by_one (w, run, gives) = ((job_of owner_by (problem_of setup start) setup.spread 1).owner, run.via, run.first ++ run.last, w, run.run, gives.0, stats.expanded ∙ ap (λ k. min k (2 ^ 64 - 1)) gives.1.expanded)
+    by_one (w, run, gives) = (run.via, run.first ++ run.last, w, run.run, gives.0, stats.expanded ∙ ap (λ k. min k (2 ^ 64 - 1)) gives.1.expanded)
 
     by_limit : (limit : ℕ) → IsFoundWithin EndsWithFigures (λ it. it.ending) setup start (record { ending = solved.ending; figures = figures }) limit → (limit ≡ setup.limit) ⊎ ((2 ≤ setup.workers) × IsNoBound solved.ending) → CountsAlone setup start solved
     by_limit limit found (inl e) = by_one (subst (λ (k : ℕ). IsFoundAlone EndsWithFigures owner_by (problem_within k setup start) setup.spread (record { ending = solved.ending; figures = figures })) e found.run)

@@ -1,5 +1,5 @@
 -- The laws of the definitions. Each is the contract of a function that does nothing.
-use Rattle.std.specs.Prelude.{ℕ, ◌≡◌, ◌≢◌, ◌⊎◌, ◌≤◌, ◌+◌, ◌-◌, ◌*◌, ◌^◌, min, sum_by, List, Option, None, Some, Vec}
+use Rattle.std.specs.Prelude.{ℕ, ◌≡◌, ◌≢◌, ◌⊎◌, ◌<◌, ◌≤◌, ◌+◌, ◌-◌, ◌*◌, ◌^◌, min, sum_by, List, Option, None, Some, Vec}
 use Rattle.std.specs.FinMap as map
 use Rattle.std.specs.declared.alloc.Global.{Global}
 use Rattle.board.specs.declared.moves.Move.{Move}
@@ -16,20 +16,24 @@ use Rattle.outcomes.specs.declared.outcome.Outcome.TheVariants as outcome
 use Rattle.outcomes.specs.Endings.{without_rows}
 use Rattle.outcomes.specs.Outcomes.{StandsAlone}
 use Rattle.outcomes.specs.declared.outcome.Why.TheVariants.{Parity}
+use Rattle.thread_runs.specs.Solved.{IsFoundByWorkers}
 use Rattle.world_ends.specs.Endings.{EndsIn}
+use Rattle.world_ends.specs.Readings.{EndsWithFigures}
+use Rattle.world_ends.specs.declared.reading.EndingWithFigures.{EndingWithFigures}
 use Rattle.world_model.specs.declared.limits.TheConstants.{GREATEST_GRANT}
 use Rattle.world_model.specs.declared.steps.Refusal.{Refusal}
 use Rattle.world_model.specs.declared.steps.Step.{Step}
 use Rattle.world_model.specs.Credit.{expansion_count}
+use Rattle.world_model.specs.Outcomes.{IsGiven}
 use Rattle.world_model.specs.Openings.{Job, opening}
 use Rattle.world_model.specs.Steps.{IsRun}
 use Rattle.world_model.specs.Worlds.{WorldState}
-use Rattle.batch_runs.specs.Setups.{SetupModel, task_of_setup}
+use Rattle.batch_runs.specs.Setups.{SetupModel, owner_by, task_of_setup}
 use Rattle.batch_lines.specs.Words.{IsEntry}
 use Rattle.batch_runs.specs.declared.stats.Stats.{Stats}
 use Rattle.batch_runs.specs.declared.stats.Solved.{Solved}
-use Rattle.setup_runs.specs.Ahead.{LacksMemory, IsEndedAlone}
-use Rattle.setup_runs.specs.Solving.{MayAnswer, MayCertify, HasStats, AreFiguresOfLine}
+use Rattle.setup_runs.specs.Ahead.{LacksMemory, IsEndedAlone, IsTooHard}
+use Rattle.setup_runs.specs.Solving.{IsFound, IsNoBound, MayAnswer, MayCertify, HasStats, AreFiguresOfLine, problem_of}
 
 -- a board of the other class is never refused for memory
 abbrev pub ParityWantsNoMemory : Type 0
@@ -46,26 +50,52 @@ BoundsAreNeverCut =
     → MayAnswer setup b (Some (Bounded bound best cause))
     → (cause ≢ Cut) × (cause ≢ Start) × (cause ≢ Memory Stated)
 
--- what one worker does for a board of the setup, where boards are owned so
-abbrev pub job_by : (BoardModel → ℕ) → SetupModel → BoardModel → Job
-job_by owner setup b = record { task = task_of_setup setup b; limit = setup.limit; count = 1; owner = owner }
+-- what one worker does for a board of the setup
+abbrev pub job_alone : SetupModel → BoardModel → Job
+job_alone setup b = record { task = task_of_setup setup b; limit = setup.limit; count = 1; owner = owner_by setup.spread 1 }
 
--- where one is for the limit and there is one worker, steps from the opening world of the board's job have expanded just as many boards as the setup says
+-- where one is for the limit and there is one worker, steps from the opening world of the board's job lead to the world that gives it, and
+-- have expanded just as many boards as the setup says
 abbrev pub LimitsAreTheSetups : Type 0
 LimitsAreTheSetups =
     (setup : SetupModel) (b : BoardModel) (bound : ℕ) (best : Option (ℕ × Vec Move Global))
     → setup.workers ≡ 1
     → MayAnswer setup b (Some (Bounded bound best Limit))
-    → (owner : BoardModel → ℕ) × (via : Move) × (made : List (Step × Option Refusal)) × (w : WorldState)
-    × IsRun (opening (job_by owner setup b) via) made w × (expansion_count w ≡ setup.limit)
+    → (via : Move) × (made : List (Step × Option Refusal)) × (w : WorldState)
+    × IsRun (opening (job_alone setup b) via) made w × EndsIn w (Bounded bound best Limit) × (expansion_count w ≡ setup.limit)
 
 -- of any number of workers, the world that gives it has expanded no more than that, and all of it except at most one grant for each worker
 abbrev pub LimitsAreNearlySpent : Type 0
 LimitsAreNearlySpent =
     (setup : SetupModel) (b : BoardModel) (bound : ℕ) (best : Option (ℕ × Vec Move Global))
     → MayAnswer setup b (Some (Bounded bound best Limit))
-    → (w : WorldState) × EndsIn w (Bounded bound best Limit)
+    → (w : WorldState) × (w.task ≡ task_of_setup setup b) × EndsIn w (Bounded bound best Limit)
     × (expansion_count w ≤ setup.limit) × (setup.limit ≤ expansion_count w + GREATEST_GRANT * setup.workers)
+
+-- each answer of a board of the goal's class is that of a world of the board's task, which has expanded no more than the setup allows
+abbrev pub AnswersAreOfWorlds : Type 0
+AnswersAreOfWorlds =
+    (setup : SetupModel) (b : BoardModel) (ending : Ending)
+    → SameClass b setup.goal
+    → MayAnswer setup b (Some ending)
+    → (w : WorldState) × (w.task ≡ task_of_setup setup b) × EndsIn w ending × (expansion_count w ≤ setup.limit)
+
+-- so is each outcome that may be certified
+abbrev pub CertifiedOutcomesAreOfWorlds : Type 0
+CertifiedOutcomesAreOfWorlds =
+    (setup : SetupModel) (b : BoardModel) (given : Outcome)
+    → SameClass b setup.goal
+    → MayCertify setup b (Some given)
+    → (w : WorldState) × (w.task ≡ task_of_setup setup b) × IsGiven w given × (expansion_count w ≤ setup.limit)
+
+-- Of several workers, what took more than two million expansions is found by all of them, and so is a bound where the limit is above that.
+abbrev pub HardBoardsAreShared : Type 0
+HardBoardsAreShared =
+    (setup : SetupModel) (start : BoardModel) (found : EndingWithFigures)
+    → 2 ≤ setup.workers
+    → IsFound EndsWithFigures (λ it. it.ending) setup start found
+    → (2000000 < found.figures.expanded) ⊎ ((2000000 < setup.limit) × (¬ IsNoBound found.ending))
+    → IsFoundByWorkers EndsWithFigures owner_by (problem_of setup start) setup.spread setup.workers found
 
 -- the same holds where rows are asked for: a board of the other class is never refused for memory, and is answered by its parity
 abbrev pub ParityIsCertified : Type 0
@@ -90,7 +120,7 @@ StatsAreOfWorlds =
     (setup : SetupModel) (start : BoardModel) (solved : Solved)
     → HasStats setup start solved
     → (SameClass start setup.goal → (w : WorldState)
-    × EndsIn w solved.ending × (solved.stats.expanded ≡ min (expansion_count w) (2 ^ 64 - 1))
+    × (w.task ≡ task_of_setup setup start) × EndsIn w solved.ending × (solved.stats.expanded ≡ min (expansion_count w) (2 ^ 64 - 1))
     × (solved.stats.known ≡ min (sum_by (λ worker. map.len worker.known) w.workers) (2 ^ 64 - 1)))
     × ((¬ SameClass start setup.goal) → (solved.stats.expanded ≡ 0) × (solved.stats.known ≡ 0))
     × (solved.stats.start_sum ≡ (task_of_setup setup start).sum start)
@@ -102,8 +132,8 @@ StatsAreOfTheSetups =
     → setup.workers ≡ 1
     → SameClass start setup.goal
     → HasStats setup start solved
-    → (owner : BoardModel → ℕ) × (via : Move) × (made : List (Step × Option Refusal)) × (w : WorldState)
-    × IsRun (opening (job_by owner setup start) via) made w × EndsIn w solved.ending × (solved.stats.expanded ≡ min (expansion_count w) (2 ^ 64 - 1))
+    → (via : Move) × (made : List (Step × Option Refusal)) × (w : WorldState)
+    × IsRun (opening (job_alone setup start) via) made w × EndsIn w solved.ending × (solved.stats.expanded ≡ min (expansion_count w) (2 ^ 64 - 1))
 
 -- The stats of a board count no more expansions than the setup allows.
 abbrev pub StatsAreWithinTheLimit : Type 0
@@ -130,3 +160,12 @@ EndedAloneIsWhole =
     (solved : Solved)
     → IsEndedAlone solved
     → (solved.stats.expanded ≤ 2000000) × ((bound : ℕ) (best : Option (ℕ × Vec Move Global)) (want : Want) → solved.ending ≢ Bounded bound best (Memory want))
+
+-- A board that one worker leaves to all others has a bound after at most two million expansions, not because memory was refused, and the
+-- setup allows more.
+abbrev pub HardBoardsAreBounded : Type 0
+HardBoardsAreBounded =
+    (setup : SetupModel) (start : BoardModel)
+    → IsTooHard setup start
+    → (2000000 < setup.limit) × (w : WorldState) × (ending : Ending) × (w.task ≡ task_of_setup setup start) × EndsIn w ending
+    × (¬ IsNoBound ending) × (¬ LacksMemory ending) × (expansion_count w ≤ 2000000)

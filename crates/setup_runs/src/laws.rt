@@ -8,6 +8,8 @@ ghost use Rattle.setup_runs.specs.Laws.{ParityIsCertified, CertifiedEndsAreAnswe
 ghost use Rattle.setup_runs.specs.Laws.{StatsAreOfWorlds, StatsAreOfTheSetups};
 ghost use Rattle.setup_runs.specs.Laws.{StatsAreWithinTheLimit, FiguresAreOfBoards};
 ghost use Rattle.setup_runs.specs.Laws.{MemoryIsLacked, EndedAloneIsWhole};
+ghost use Rattle.setup_runs.specs.Laws.{AnswersAreOfWorlds, CertifiedOutcomesAreOfWorlds};
+ghost use Rattle.setup_runs.specs.Laws.{HardBoardsAreShared, HardBoardsAreBounded};
 ghost use Rattle.setup_runs.specs.Solving.{HasStats, rules_of};
 ghost use Rattle.batch_runs.specs.Laws.{FiguresBelongToReports};
 ghost use Rattle.batch_runs.specs.Setups.{SetupModel};
@@ -67,6 +69,20 @@ pub fn two_million_are_enough()
 pub fn memory_is_lacked()
     ensures bounds { MemoryIsLacked }
     ensures alone { EndedAloneIsWhole }
+{}
+
+/// Each answer of a board of the goal's class is that of a world of its task, within the limit.
+#[tactic(auto, using(crate::proofs::LawLemmas::answers_of_worlds, crate::proofs::LawLemmas::certified_of_worlds))]
+pub fn answers_are_of_worlds()
+    ensures answered { AnswersAreOfWorlds }
+    ensures certified { CertifiedOutcomesAreOfWorlds }
+{}
+
+/// Of several workers all share a board that two million expansions of one don't solve.
+#[tactic(auto, using(crate::proofs::LawLemmas::hard_shared, crate::proofs::LawLemmas::hard_bounded))]
+pub fn hard_boards_are_shared()
+    ensures shared { HardBoardsAreShared }
+    ensures bounded { HardBoardsAreBounded }
 {}
 
 /// The figures that a watch takes are those of a board that a line names by the same id.

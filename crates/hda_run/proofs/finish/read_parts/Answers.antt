@@ -4,10 +4,10 @@ use Rattle.lower_bound.specs.Tables.{BoundModel, parts_of}
 use Rattle.board.specs.Boards.{BoardModel}
 use Rattle.outcomes.specs.Outcomes.{Task}
 use Rattle.worker_core.specs.Roles.{guide_of}
-use Rattle.world_ends.specs.Parts.{AreWorkersGuided}
+use Rattle.world_ends.specs.Parts.{AreWorkersGuided, states_of}
 use Rattle.hda_run.specs.Jobs.{task_in}
 use Rattle.hda_run.specs.Worlds.{world_of}
-use Rattle.hda_run.proofs.PartsLemmas.{W}
+use Rattle.hda_run.proofs.PartsLemmas.{W, states_in_place}
 use Rattle.hda_run.proofs.LowestLemmas.{items_in_lanes, lowest_is, lanes_in, same_task, has_parts}
 use Rattle.hda_run.proofs.finish.read_parts.Goals as goal
 
@@ -28,8 +28,8 @@ read-answer-requires-after_bounds g c κs within =
       parts = has_parts g.S.Spread.owner_of c.args.parts _ c.deref_mut.result.now same c.deref_mut.ensures.value c.requires;
     }
 
-pub returns : goal.returns
-returns g c =
+pub returns-clause-given : goal.returns-clause-given
+returns-clause-given g c =
     let p = c.args.parts.job in
     let w = world_of g.S.Spread.owner_of c.args.parts in
     let asked = c.asked_in-asked in
@@ -39,3 +39,8 @@ returns g c =
       lanes = lowest_is w c.deref.result.now (sum_of (parts_of c.bound.result.now)) c.lowest_in_lanes.result (ap lanes_in c.deref.ensures.value) (ap (λ (tables : BoundModel). sum_of (parts_of tables)) c.bound.ensures.value) c.lowest_in_lanes.ensures;
       stop = sym c.stop.ensures.value;
     })
+
+pub returns-clause-lists : goal.returns-clause-lists
+returns-clause-lists g c = λ worker one.
+    let same = c.read-answer.ensures.same ∙ ap (λ (workers : List W). states_of workers) c.deref_mut.ensures.value in
+    c.hand_out.ensures worker (states_in_place c.args.parts.workers c.read-answer.new.workers same ∙ one)
