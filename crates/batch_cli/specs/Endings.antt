@@ -9,7 +9,7 @@ use Rattle.batch_cli.specs.declared.endings.Ending.{Ending}
 use Rattle.batch_cli.specs.declared.endings.Ending.TheVariants.{NoTexts, Refused, NoMemoryToStart, NoMemory, Ran, Answered, Shown, Faulted}
 
 -- 0: each line is optimal or unsolvable, or a text was written, or boards were listed. 1: some line is bounded or refused. 2: the arguments are
--- no texts, or ask for nothing. 3: a stream failed. 4: memory ran out. A run over one line, one certificate or one replay answers its own status.
+-- not UTF-8, or are invalid. 3: a stream failed. 4: memory ran out. A run over one line, one certificate or one replay answers its own status.
 abbrev pub status_of : Ending → ℕ
 status_of NoTexts = 2
 status_of (Refused refusal) = refusal_status refusal
@@ -52,7 +52,7 @@ pub record Tells (errors : Change SinkState) (ending : Ending) (status : ℕ) : 
   pub begun : PutsBeginning errors (message_of ending)
   pub whole : errors.after.has_failed ≡ false → Puts errors (message_of ending)
 
--- the ending comes before anything is read or written: the arguments are no texts, or ask for nothing, or there is no memory
+-- the ending comes before anything is read or written: the arguments are not UTF-8, or are invalid, or there is no memory
 abbrev pub HasNotBegun : Ending → Type 0
 HasNotBegun NoTexts = ⊤
 HasNotBegun (Refused refusal) = ⊤

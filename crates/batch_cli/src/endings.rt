@@ -13,9 +13,9 @@ use memory::OutOfMemory;
 /// How the program ends.
 #[derive(Debug, Drop)]
 pub enum Ending {
-    /// It was given arguments that are no texts.
+    /// An argument is not UTF-8.
     NoTexts,
-    /// It was given arguments that ask for nothing.
+    /// The arguments are invalid.
     Refused(NoRequest),
     /// There was no memory for the arguments or the streams' buffers: only `main` ends so.
     NoMemoryToStart,
@@ -37,7 +37,7 @@ impl Ending {
     ///
     /// - 0: each line is optimal or unsolvable, or a text was written, or boards were listed.
     /// - 1: some line is bounded or refused.
-    /// - 2: the arguments are no texts, or ask for nothing.
+    /// - 2: the arguments are not UTF-8, or are invalid.
     /// - 3: a stream failed.
     /// - 4: memory ran out.
     ///

@@ -23,7 +23,7 @@ use std::thread::Threads;
 /// boards at unit cost with Korf's goal, and the tables of the groups `1,2,3,4/5,6,7,8`.
 ///
 /// What is written tells the truth: `IsTrueBy` says so, and `IsTrue` where there are no arguments.
-/// Where the arguments ask for nothing, or there is no memory for the tables, nothing is read or
+/// Where the arguments are invalid, or there is no memory for the tables, nothing is read or
 /// written.
 pub fn run_program<R: Threads + Wait + Sync, S: Source, K: Sink, E: Sink>(
     rt: &R,

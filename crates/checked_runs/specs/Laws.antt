@@ -1,4 +1,4 @@
--- The laws of the tables that plans are checked with. Each is the contract of a function that does nothing.
+-- The laws of checked runs: of tables, certificates and outcomes. Each is the contract of a function that does nothing.
 use Rattle.std.specs.Prelude.{◌≡◌, ◌≤◌, ◌<◌, ◌^◌, ◌⊎◌, ℕ, Option, Some, None, Vec, length}
 use Rattle.std.specs.declared.alloc.Global.{Global}
 use Rattle.board.specs.declared.moves.Move.{Move}

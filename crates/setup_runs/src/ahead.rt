@@ -45,7 +45,7 @@ pub(crate) struct Tried {
     pub(crate) solved: Option<Solved>,
 }
 
-// Why a board is left to all workers. Nobody can say that memory was refused without a refusal.
+// Why a board is left to all workers. `NoMemory` carries the refusal as evidence.
 #[derive(Clone, Copy)]
 enum Left {
     TooHard,

@@ -88,8 +88,8 @@ impl<
 /// that was too hard for one worker is solved by all. A line that comes alone is solved by one
 /// worker if its board is easy or the limit is at most two million, and else by all.
 ///
-/// The sink is flushed after each report, so that whoever waits for one has it; nothing is flushed
-/// for a line that is passed over.
+/// The sink is flushed after each report, so that a reader who waits for one has it. Nothing is
+/// flushed for a line that is passed over.
 ///
 /// After `Read` exactly the reports of the lines that were read whole are written; after `Memory`
 /// those of the first lines, whole; after `Write` a beginning of the reports: where a flush failed,

@@ -7,7 +7,7 @@
 //! - The memory of a worker's lists is kept from one board to the next: in a batch for all lines,
 //!   in `end_ahead` for all boards of a thread. Where memory is refused over lists that served
 //!   before, the worker begins anew over new ones (`read_over`).
-//! - `run_watched` is `run_batch` under a `Watch`: a gate, a clock, and whoever takes figures.
+//! - `run_watched` is `run_batch` under a `Watch`: a gate, a clock, and a receiver of figures.
 //!   Searches read `WithFigures`, whose figures are exact; no contract says what a watch does.
 //! - One worker owns all boards, so it is run with the cheapest spread.
 //! - `end_ahead`: boards that are held together, at least 16 if they have at most 9 cells and at

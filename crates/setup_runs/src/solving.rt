@@ -1,6 +1,6 @@
 //! The solver of a setup's boards.
 
-ghost use Rattle.std.specs.Prelude.{◌≡◌, ◌↔◌, ◌-◌, ◌^◌, ◌≤◌, min, IfOk, IfSome, IsFalse, IsTrue, Ok};
+ghost use Rattle.std.specs.Prelude.{◌≡◌, ◌↔◌, ◌-◌, ◌^◌, ◌<◌, ◌≤◌, min, IfOk, IfSome, IsFalse, IsTrue, Ok};
 ghost use Rattle.board.specs.Boards.{BoardModel};
 ghost use Rattle.board.specs.Classes.{SameClass};
 ghost use Rattle.batch_runs.specs.Setups.{owner_by, task_of_setup};
@@ -9,6 +9,8 @@ ghost use Rattle.hda_run.specs.WholeRuns.{EndsWholeRun};
 ghost use Rattle.batch_runs.specs.Batches.{MayGive};
 ghost use Rattle.setup_runs.specs.Solving.{problem_of, problem_within, rules_of};
 ghost use Rattle.setup_runs.specs.Solving.{IsSearched, IsNoBound, AreStatsOf, HasStats};
+ghost use Rattle.setup_runs.specs.Ahead.{LacksMemory};
+ghost use Rattle.setup_runs.specs.declared.solving.TheConstants.{EASY_EXPANSIONS};
 
 use crate::watching::Watch;
 use batch_runs::{Setup, Solved, SpreadKind, Stats};
@@ -42,8 +44,9 @@ pub(crate) trait TellsBounds: Reading {
         ensures no { IsFalse result → IsNoBound (Self.end answer.now) }
         ensures yes { IsTrue result → ¬ IsNoBound (Self.end answer.now) };
 
-    /// Whether the run ended for memory. No contract speaks of it.
-    fn lacks_memory(answer: &Self::Answer) -> bool;
+    /// Whether an answer is a bound for which memory was refused.
+    fn lacks_memory(answer: &Self::Answer) -> bool
+        ensures { IsTrue result ↔ LacksMemory (Self.end answer.now) };
 }
 
 impl TellsBounds for WithRows {
@@ -154,7 +157,7 @@ pub(crate) fn answer_board<A: TellsBounds, R: Threads + Wait + Sync, G: Gate + S
     if let Some(answer) = answer_easy::<A, ByBlank, G>(alloc, question, &ByBlank, gate, lists) {
         return Ok(answer);
     }
-    // What is kept for easy boards isn't to be lacked by the others.
+    // Frees what easy boards kept: a hard board may need it.
     *lists = SearchLists::new(alloc);
     answer_shared::<A, R, G>(rt, alloc, question, gate)
 }
@@ -178,7 +181,8 @@ fn answer_alone<A: TellsBounds, S: Spread, G: Gate>(
 
 /// What one worker finds of a board within a limit, over lists whose memory is kept from one board
 /// to the next. Where memory is refused over lists that served before, they are dropped, and the
-/// worker begins anew: what is kept must cost no answer.
+/// worker begins anew: what is kept must cost no answer. What it found first stays the answer where
+/// memory is refused before its first step then.
 pub(crate) fn read_over<A: TellsBounds, S: Spread, G: Gate>(
     alloc: Global,
     question: &Question<'_>,
@@ -202,7 +206,11 @@ pub(crate) fn read_over<A: TellsBounds, S: Spread, G: Gate>(
         return found;
     }
     *lists = SearchLists::new(alloc);
-    read_once::<A, S, G>(alloc, question, limit, spread, gate, lists)
+    let again = read_once::<A, S, G>(alloc, question, limit, spread, gate, lists);
+    if again.is_err() {
+        return found;
+    }
+    again
 }
 
 // The same, whether or not memory is refused.
@@ -270,6 +278,7 @@ fn easy_limit(whole: u64) -> u64
     ensures within { result ≤ whole }
     ensures few { result ≤ ENOUGH_EXPANDED }
     ensures all { whole ≤ ENOUGH_EXPANDED → result ≡ whole }
+    ensures high { ENOUGH_EXPANDED < whole → result ≡ EASY_EXPANSIONS }
 {
     if whole <= ENOUGH_EXPANDED {
         return whole;

@@ -7,12 +7,12 @@ use batch_runs::Stats;
 use hda_run::{Gate, Kind, World};
 use owners::Spread;
 
-/// A gate that is passed after each step of a search, a clock, and whoever takes the figures of
+/// A gate that is passed after each step of a search, a clock, and a receiver of the figures of
 /// lines. No contract says what becomes of these.
 pub trait Watch: Gate {
     ghost use Rattle.batch_runs.specs.declared.stats.Stats.{Stats};
 
-    // Figures were taken with this id: for any watch this follows from `observe` alone.
+    // Figures were taken with this id. `observe` is the only call that establishes it.
     ghost has_taken: { Self → List ℕ → Stats → Type 0 } = { λ _ _ _. ⊤ };
 
     /// The microseconds since some moment.

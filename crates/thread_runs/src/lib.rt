@@ -4,12 +4,12 @@
 //!
 //! - `solve` checks the number of workers. `search_by_workers`, in each reading, takes one that is
 //!   known to be from 1 to 16.
-//! - `run_by_threads` answers `Some` exactly where the joined world is kept, so tests can see that
-//!   threads answered.
+//! - `run_by_threads` answers `Some` exactly where the joined world is kept (`IsKept`: what it gives
+//!   may be used), so tests can see that threads answered.
 //! - Order: number of workers (V2), parity, then threads or one worker. `ledgers` opens the two
 //!   ledgers, `opening` makes the parts, `teams` makes the rings, runs and joins.
 //! - `outcome_of_joined` takes a `Team`: the parts, the book, and all its tickets. It answers
-//!   `Some` exactly where the joined world is kept (`IsKept`); the error is refused memory.
+//!   `Some` exactly where the joined world is kept; the error is refused memory.
 //! - `take_apart` sorts parts into workers and ends, `tie_all` looks at each ring, `audit_all` at
 //!   each purse, `count_expanded` adds up tickets. Lanes of the joined world exist in proofs alone;
 //!   the lowest f in rings is found by taking packets out.

@@ -34,8 +34,8 @@ use world_ends::{Reading, WithRows};
 /// - memory was refused for what threads begin or end with;
 /// - the world of the joined workers is not kept, as where a thread could not be started.
 ///
-/// No contract says that threads run: a body would prove that starts none and names its opening
-/// world as one that is not kept. The gate's tests refuse it.
+/// No contract says that threads run. A body that starts none, and names its opening world as one
+/// that is not kept, would prove too: tests with threads refuse it.
 ///
 /// Faults: V2 the workers are not from 1 to `WORKER_LIMIT`, V3 memory was refused for the world of
 /// one worker. The outcome says what was refused later.
@@ -69,8 +69,8 @@ pub fn solve<'a, R: Threads + Wait + Sync, S: Spread + Sync, G: Gate + Sync>(
     }
 }
 
-/// The same in each reading, without rows or with them. The error: out of memory before the first
-/// step.
+/// Solves a job as `solve`, by 1 to `WORKER_LIMIT` workers, and reads the answer without rows or with
+/// them. The error: out of memory before the first step.
 pub fn search_by_workers<A: Reading, R: Threads + Wait + Sync, S: Spread + Sync, G: Gate + Sync>(
     rt: &R,
     alloc: Global,

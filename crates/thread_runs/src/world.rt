@@ -50,7 +50,7 @@ pub(crate) fn join_world<S: Spread, C: Tokens>(
     Ok(Joined { workers, outs, ins })
 }
 
-// Tells that each worker's purse is within the credit.
+// Shows that each worker's purse is within the credit.
 fn audit_all<C: Tokens>(book: &mut Book<C>, workers: &mut [Worker<C>])
     ensures bound { All (λ worker. worker.purse ≤ book.old.credit) (states_of workers.old) }
     ensures book { book.new ≡ book.old }

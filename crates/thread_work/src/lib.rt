@@ -15,7 +15,7 @@
 //! - A worker waits while another one has boards of f lower by more than a lead (`Pace`), or, where
 //!   it has no lead, is over 64 rounds behind at the same f: what it expanded might be in vain.
 //!   `Signs` has each one's level, which is about the least f of its boards and its rounds there,
-//!   and proves nothing: after 32 turns in a row without a packet, or 16 at the same f, it expands
+//!   and proves nothing: after 32 rounds in a row without a packet, or 16 at the same f, it expands
 //!   some anyway. Before it shows a higher f it sends what is unsent; a sender lowers the receiver's
 //!   level to its own f.
 //! - The book's lock is held for one step or look. A mark in `Signs` says that it has stopped; the

@@ -17,7 +17,7 @@ use world_model::Refusal;
 // time another worker hardly fills more than one packet, and one is taken in from each.
 const EXPANSIONS_IN_A_ROUND: u32 = 16;
 
-// After this many turns in a row without a packet a worker expands boards though others have some
+// After this many rounds in a row without a packet a worker expands boards though others have some
 // of an f that is lower by more than its lead.
 const PATIENT_TURNS: u32 = 32;
 
@@ -33,7 +33,8 @@ const MANY_ROUNDS: u32 = 64;
 // By how many rounds at the least f that is shown a worker may be ahead of the slowest one there.
 const ROUNDS_AHEAD: u64 = 64;
 
-// After this many turns in a row without a packet it goes on all the same: else it would sleep.
+// After this many rounds in a row without a packet a worker that is ahead goes on all the same, since
+// after one more it would sleep.
 const TURNS_AWAKE: u32 = 16;
 
 // Up to this many rounds at one f may stay unshown.

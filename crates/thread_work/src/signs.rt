@@ -68,7 +68,7 @@ impl Signs {
         self.stopped.load(Ordering::SeqCst) != 0
     }
 
-    /// Marks that the book has stopped, and wakes all workers. Called by whoever stopped it.
+    /// Marks that the book has stopped, and wakes all workers. The worker that stopped it calls this.
     pub fn mark_stopped(&self) {
         self.stopped.store(1, Ordering::SeqCst);
         for word in &self.words {
@@ -77,7 +77,7 @@ impl Signs {
         }
     }
 
-    /// Wakes a worker, if it sleeps. Called by whoever sent it a packet.
+    /// Wakes a worker, if it sleeps. The worker that sent it a packet calls this.
     pub fn wake(&self, worker: usize) {
         let Some(word) = self.words.get(worker) else {
             return;

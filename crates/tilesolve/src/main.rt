@@ -1,6 +1,7 @@
-//! The program `tilesolve`. It reports a plan of least cost for each board (`solve`), writes the
-//! certificate of the first board's plan (`solve --cert`), checks a certificate (`check`), or takes
-//! the steps of a search one by one (`replay`).
+//! The program `tilesolve`. It reports a plan of least cost for each board (`solve`), or writes the
+//! certificate of the first board's plan (`solve --cert`). It checks, draws and upgrades
+//! certificates (`check`, `show`, `upgrade`), lists boards (`boards`), and takes the steps of a
+//! search one by one (`replay`).
 //!
 //! It reads boards, certificates and steps from standard input, and answers on standard output.
 //!
@@ -43,7 +44,7 @@ struct Progress<'a, R> {
     // The second for which a line of progress was printed last, or is due.
     second: AtomicU64,
     is_due: AtomicBool,
-    // What was read of the stack, which nobody asks for.
+    // Keeps the compiler from removing `take_stack`.
     read: u8,
 }
 
@@ -135,8 +136,8 @@ impl<R: Eprint + AllocGlobal + Clock> Watch for Progress<'_, R> {
     }
 }
 
-// The arguments after the program's name, or how the program ends where they are no texts or find no
-// memory.
+// The arguments after the program's name, or how the program ends where they are not UTF-8 or find
+// no memory.
 fn read_words(rt: &(impl Env + AllocGlobal)) -> Result<Vec<String>, Ending> {
     let words = match env::args(rt) {
         Ok(words) => words,

@@ -98,8 +98,21 @@ const PROVED: Asked = Asked {
     ..FAR
 };
 
+// A board that has one plan of 21 moves. Without tables one worker has to expand some 50,000 boards,
+// so several share them.
+const SHARED: Asked = Asked {
+    side: 3,
+    costs: Costs::Unit,
+    groups: &[],
+    fold: false,
+    limit: u64::MAX,
+    workers: 2,
+    spread: SpreadKind::Zobrist,
+    line: "s 3 0 4 2 7 1 5 6 8",
+};
+
 /// The lines. Those of several workers have one report, whatever their threads do.
-pub static LINES: [Asked; 12] = [
+pub static LINES: [Asked; 15] = [
     SOLVED,
     LARGE,
     Asked {
@@ -140,6 +153,16 @@ pub static LINES: [Asked; 12] = [
         fold: true,
         workers: 3,
         ..LARGE
+    },
+    SHARED,
+    Asked {
+        spread: SpreadKind::Blank,
+        ..SHARED
+    },
+    Asked {
+        workers: 3,
+        spread: SpreadKind::Abstract,
+        ..SHARED
     },
 ];
 
@@ -207,7 +230,8 @@ pub fn print_report<R: Print + AllocGlobal + Threads + Wait + Sync>(
     }
 }
 
-// Prints a report, and before it what the gate saw, where one worker does the same each time.
+// Prints a report, and before it what the gate saw, where one worker does the same each time. Of
+// several, it is whether others than the first one took steps.
 fn print_made(rt: &impl Print, asked: &Asked, report: &[u8], seen: &Seen) -> io::Result<()> {
     if asked.workers == 1 {
         println!(rt;
@@ -218,15 +242,21 @@ fn print_made(rt: &impl Print, asked: &Asked, report: &[u8], seen: &Seen) -> io:
             seen.shown.times(),
             seen.shown.last()
         )?;
+    } else if seen.others.load(Ordering::SeqCst) > 0 {
+        rt.println("# shared by all workers")?;
+    } else {
+        rt.println("# solved by one worker alone")?;
     }
     print_text(rt, report)
 }
 
-// What a gate saw: expansions, steps of any kind, and what it was shown.
+// What a gate saw: expansions, steps of any kind, those of other workers than the first one, and what
+// it was shown.
 #[derive(Drop)]
 struct Seen {
     expanded: Counter,
     steps: AtomicU64,
+    others: AtomicU64,
     shown: Shown,
 }
 
@@ -236,6 +266,7 @@ impl Seen {
         Seen {
             expanded: Counter::new(),
             steps: AtomicU64::new(0),
+            others: AtomicU64::new(0),
             shown: Shown::new(),
         }
     }
@@ -245,6 +276,9 @@ impl Gate for Seen {
     fn pass(&self, worker: usize, kind: Kind) {
         self.expanded.pass(worker, kind);
         let _ = self.steps.fetch_add(1, Ordering::SeqCst);
+        if worker > 0 {
+            let _ = self.others.fetch_add(1, Ordering::SeqCst);
+        }
     }
 
     fn meet(&self, boards: usize) {
