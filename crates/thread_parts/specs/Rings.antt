@@ -110,6 +110,10 @@ pub record AreNew (n : ℕ) (outs : List (Vec SenderModel Global)) (ins : List (
   pub received : received_rows ins ≡ replicate n (replicate n [])
   pub rooms : HaveRoom (rings_of_outs outs)
 
+-- a new ring from a worker to itself has room for one packet, and each other one for as many as a lane
+abbrev pub NewRingsHaveRoom : Type 0
+NewRingsHaveRoom = (n : ℕ) (outs : List (Vec SenderModel Global)) (ins : List (Vec ReceiverModel Global)) (i j : ℕ) (ring : Ring) → AreNew n outs ins → slice_get (slice_index_or (rings_of_outs outs) i []) j ≡ Some ring → (i ≡ j → room_of ring ≡ 1) × (i ≢ j → room_of ring ≡ LANE_LIMIT)
+
 -- the ring at `to` of the one list is that at `from` of the other
 pub record IsSameRing (outs : List Ring) (to : ℕ) (ins : List Ring) (from : ℕ) : Type 0 where
   pub sender : to < length outs

@@ -1,5 +1,5 @@
 -- The steps that a part takes otherwise than a worker of a world does.
-use Rattle.std.specs.Prelude.{◌≡◌, ◌≢◌, ◌⊎◌, ℕ, ◌+◌, ◌^◌, ◌<◌, [], None, Some}
+use Rattle.std.specs.Prelude.{◌≡◌, ◌≢◌, ◌⊎◌, ℕ, ◌+◌, ◌^◌, ◌<◌, ◌≤◌, [], None, Some}
 use Rattle.world_model.specs.PartChanges.{Sends, Receives}
 use Rattle.world_model.specs.ThreadParts.{PartState}
 use Rattle.world_model.specs.declared.steps.Refusal.{Refusal}
@@ -44,10 +44,26 @@ DeliveredIsReceived = (from : ℕ) (it : Turn PartState Refusal) → DeliverByRi
 abbrev pub RefusedPacketsChangeNothing : Type 0
 RefusedPacketsChangeNothing = (at : ℕ) (it : Turn PartState Refusal) (refusal : Refusal) → it.answer ≡ Some refusal → SendByRing at it ⊎ DeliverByRing at it → it.after ≡ it.before
 
+-- a packet is refused where nothing is unsent for that worker, and else where the purse is below 2; otherwise it is sent, or the ring is full
+abbrev pub SendRefusalsAreDue : Type 0
+SendRefusalsAreDue = (to : ℕ) (it : Turn PartState Refusal) → SendByRing to it → (packet_for it.before.worker to ≡ [] → it.answer ≡ Some NothingThere)
+    × (packet_for it.before.worker to ≢ [] → it.before.worker.purse < 2 → it.answer ≡ Some PurseTooSmall)
+    × (packet_for it.before.worker to ≢ [] → 2 ≤ it.before.worker.purse → (it.answer ≡ None) ⊎ (it.answer ≡ Some RingFull))
+
+-- none is taken where items are held, and else where the purse has no room for 1 more; otherwise one is taken, or the ring is empty
+abbrev pub DeliverRefusalsAreDue : Type 0
+DeliverRefusalsAreDue = (from : ℕ) (it : Turn PartState Refusal) → DeliverByRing from it → (it.before.worker.held ≢ [] → it.answer ≡ Some StillHolding)
+    × (it.before.worker.held ≡ [] → it.before.worker.purse + 1 ≡ 2 ^ 64 → it.answer ≡ Some PurseFull)
+    × (it.before.worker.held ≡ [] → it.before.worker.purse + 1 ≢ 2 ^ 64 → (it.answer ≡ None) ⊎ (it.answer ≡ Some RingEmpty))
+
 -- with a purse, in a run that goes on, this step on the book is taken
 abbrev pub WithAPurseItIsTheStep : (Turn AtBook Refusal → Type 0) → Type 0
 WithAPurseItIsTheStep Step = (it : Turn AtBook Refusal) → it.before.book.stop ≡ None → it.before.worker.purse ≢ 0 → WithPurse Step it → Step it
 
--- without one, or in a run that is stopped, it is refused and changes nothing
+-- without one, or in a run that is stopped, it is refused and changes nothing; the refusal is Stopped where the run is stopped, and else
+-- PurseEmpty
 abbrev pub BarredStepsChangeNothing : (Turn AtBook Refusal → Type 0) → Type 0
-BarredStepsChangeNothing Step = (it : Turn AtBook Refusal) → (it.before.book.stop ≢ None) ⊎ (it.before.worker.purse ≡ 0) → WithPurse Step it → (it.answer ≢ None) × (it.after ≡ it.before)
+BarredStepsChangeNothing Step = (it : Turn AtBook Refusal) → (it.before.book.stop ≢ None) ⊎ (it.before.worker.purse ≡ 0) → WithPurse Step it → (it.answer ≢ None)
+    × (it.before.book.stop ≢ None → it.answer ≡ Some Stopped)
+    × (it.before.book.stop ≡ None → it.answer ≡ Some PurseEmpty)
+    × (it.after ≡ it.before)

@@ -3,9 +3,11 @@
 ghost use Rattle.world_model.specs.declared.steps.HaltCause.{HaltCause};
 ghost use Rattle.world_model.specs.BookSteps.{AnnounceStep, GrantStep, HaltStep};
 ghost use Rattle.world_model.specs.Workers.{Role};
+ghost use Rattle.thread_parts.specs.Rings.{NewRingsHaveRoom};
 ghost use Rattle.thread_parts.specs.Parts.{ChangesItsWorker, HaveSameLanes};
 ghost use Rattle.thread_parts.specs.Steps.{SentIsSent, DeliveredIsReceived};
 ghost use Rattle.thread_parts.specs.Steps.{RefusedPacketsChangeNothing};
+ghost use Rattle.thread_parts.specs.Steps.{SendRefusalsAreDue, DeliverRefusalsAreDue};
 ghost use Rattle.thread_parts.specs.Steps.{WithAPurseItIsTheStep, BarredStepsChangeNothing};
 
 use crate::part::Part;
@@ -31,8 +33,21 @@ pub fn packets_go_and_come()
     ensures refused { RefusedPacketsChangeNothing }
 {}
 
-/// A step on the book is taken with a purse, in a run that goes on. Else it is refused, and changes
-/// nothing.
+/// A step by a ring is refused for the first of its causes that is there, by the refusal of that
+/// cause. Where there is none, the packet goes or comes, or the ring refuses it.
+pub fn refusals_of_rings_are_due()
+    ensures sent { SendRefusalsAreDue }
+    ensures received { DeliverRefusalsAreDue }
+{}
+
+/// The rings of a run that begins have room for one packet from a worker to itself, and from one to
+/// another for as many as a lane.
+pub fn new_rings_have_room()
+    ensures { NewRingsHaveRoom }
+{}
+
+/// A step on the book is taken with a purse, in a run that goes on. Else it is refused by the cause
+/// that is there, and changes nothing.
 pub fn book_steps_need_a_purse()
     ensures announce { (role : Role) → WithAPurseItIsTheStep (AnnounceStep role) }
     ensures grant { (role : Role) → WithAPurseItIsTheStep (GrantStep role) }
