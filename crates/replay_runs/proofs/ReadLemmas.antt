@@ -32,9 +32,8 @@ use Rattle.world_model.specs.Laws.{RunsAnswer}
 use Rattle.batch_runs.specs.Meanings.{Names}
 use Rattle.batch_runs.specs.declared.faults.LinesFault.{LinesFault}
 use Rattle.replay_runs.specs.Replays.{Jobs, IsReadLine, OpensRun, IsLineRefusedBy, RefusesFirst, IsPlay, IsEnd, WritesNothing, WritesRefusal, WritesPlay, Replays, ReportsRefusal}
-use Rattle.replay_runs.specs.Replays.{AsksFirst, PlaysNamedBoards, RefusesFirstLines, AnswersNamedBoard, LacksBoard, LeavesAnswers, ReplayOutputsAreAnswers, LosesReplay, BeginsReplay, LacksReport, RepliesToFirstSteps, BeginsAnswer, EarlyReplaysBeginAnswers}
+use Rattle.replay_runs.specs.Replays.{AsksFirst, PlaysNamedBoards, RefusesFirstLines, AnswersNamedBoard, LacksBoard, LeavesAnswers, ReplayOutputsAreAnswers, LosesReplay, BeginsReplay, LacksReport, RepliesToFirstSteps, BeginsAnswer, EarlyReplaysBeginAnswers, RepliesToAllSteps, HoldsReplies, EarlyReplaysAnswerAllRead}
 use Rattle.std.specs.Prelude.{drop, slice_get, not, ◌⊎◌}
-use Rattle.std.specs.Io.KnownBytes.{Appends}
 use Rattle.std.proofs.Math.Seq.{drop-append-add}
 use Rattle.std.proofs.lemmas.List.Elements.{All-head, All-tail}
 use Rattle.board.specs.Shapes.{ShapeModel}
@@ -45,7 +44,7 @@ use Rattle.outcomes.specs.Outcomes.{Task, Answers}
 use Rattle.outcomes.specs.Endings.{EndAnswers}
 use Rattle.outcomes.specs.declared.outcome.Outcome.TheVariants as out
 use Rattle.world_model.specs.Openings.{opening}
-use Rattle.batch_runs.specs.Batches.{AreAll, AreFirst}
+use Rattle.batch_runs.specs.Batches.{AreAll, AreFirst, LosesLine}
 use Rattle.batch_runs.specs.Meanings.{HasFault, questions, IsQuestion}
 use Rattle.batch_runs.proofs.TruthLemmas.{same_name, no_fault, truth}
 use Rattle.std.specs.List.{AllByRecursion}
@@ -584,6 +583,40 @@ pub early_begins : (jobs : Jobs) → EarlyReplaysBeginAnswers jobs
 early_begins jobs source sink Read input n id board known empty asks_it replays = loses jobs source sink input n id board known empty asks_it replays.0
 early_begins jobs source sink Write input n id board known empty asks_it replays = begins_replay jobs source sink input n id board known empty asks_it replays.0
 early_begins jobs source sink (Memory lacking) input n id board known empty asks_it replays = lacks_report jobs source sink input n id board known empty asks_it replays.0
+
+-- the replies to the first lines of an input, whose board line is among them, are those to all lines behind that line
+replies_to_all : (jobs : Jobs) (all lines more : List (List ℕ)) (n : ℕ) (id name : List ℕ) (board : BoardModel) (replies : List Reply) (w : WorldState) → all ≡ lines ++ more → AsksFirst jobs all n id board → IsPlay jobs lines name replies w → RepliesToAllSteps jobs lines n board (replies_text replies)
+replies_to_all jobs all lines more n id name board replies w is asks_it play =
+    let parts : all ≡ play.passed ++ play.line ∷ (play.later ++ more) = is ∙ ap (λ (ls : List (List ℕ)). ls ++ more) play.parts ∙ append_assoc play.passed (play.line ∷ play.later) more in
+    let here = first_is all play.passed (play.later ++ more) play.line asks_it.0 n parts play.before (named_here jobs.grid play.line name play.board play.named) asks_it.1 in
+    let same = same_name jobs.grid play.line id name board play.board (subst (λ (line : List ℕ). Names jobs.grid line id board) here.1 asks_it.2) play.named in
+    let behind : drop n lines ≡ play.later = ap (λ (k : ℕ). drop k lines) here.0 ∙ ap (λ (ls : List (List ℕ)). drop (length play.passed + 1) ls) play.parts ∙ drop-append-add play.passed (play.line ∷ play.later) 1 in
+    let replied : IsReplied (from_to (opening (jobs.job play.board) play.via) w) (drop n lines) replies = subst (λ (later : List (List ℕ)). IsReplied (from_to (opening (jobs.job play.board) play.via) w) later replies) (sym behind) play.replied in
+    record { replies = replies; via = play.via; end = w; replied = subst (λ (b : BoardModel). IsReplied (from_to (opening (jobs.job b) play.via) w) (drop n lines) replies) same.1 replied; is = refl }
+
+module _ (jobs : Jobs) (source : Change SourceState) (sink : Change SinkState) (input : List ℕ) (n : ℕ) (id : List ℕ) (board : BoardModel) (known : source.before.left ≡ Some input) (empty : sink.before.contents ≡ Some []) (asks_it : AsksFirst jobs (lines_of input) n id board) where
+  -- what was put is what the sink holds, since it was empty
+  now_held : (text : List ℕ) → Puts sink text → sink.after.contents ≡ Some text
+  now_held text put = held sink.before.contents sink.after.contents text empty put
+
+  lost_answers : LosesReplay jobs source sink → (lines : List (List ℕ)) × LosesLine source lines × ((All IsPassedOver lines × (sink.after.contents ≡ Some [])) ⊎ HoldsReplies jobs sink lines n board)
+  lost_answers (lines, lost, inl (over, put)) = (lines, lost, inl (over, now_held [] put))
+  lost_answers (lines, lost, inr (name, replies, w, play, put)) =
+      let some : (more : List (List ℕ)) × (lines_of input ≡ lines ++ more) = subst (λ (left : Option (List ℕ)). AreFirst left lines) known (AreFirst-read source.before.left lost.between.left lines lost.whole) in
+      (lines, lost, inr (replies_text replies, now_held (replies_text replies) put, replies_to_all jobs (lines_of input) lines some.0 n id name board replies w some.1 asks_it play))
+
+  lacking_answers : LacksReport jobs source sink → (jobs.lacks board × (sink.after.contents ≡ Some [])) ⊎ HoldsReplies jobs sink (lines_of input) n board
+  lacking_answers (inl (output, refuses, put)) = inl ((refused_by_want jobs source input output n id board known asks_it refuses).0, now_held [] put)
+  lacking_answers (inr (lines, name, replies, w, all, play, put)) =
+      let same : lines_of input ≡ lines = subst (λ (left : Option (List ℕ)). AreAll left lines) known all in
+      let whole : IsPlay jobs (lines_of input) name replies w = subst (λ (ls : List (List ℕ)). IsPlay jobs ls name replies w) (sym same) play in
+      inr (replies_text replies, now_held (replies_text replies) put, replies_to_all jobs (lines_of input) (lines_of input) [] n id name board replies w (sym (append-nil (lines_of input))) asks_it whole)
+
+pub early_answers : (jobs : Jobs) → EarlyReplaysAnswerAllRead jobs
+early_answers jobs = record {
+  lost = λ source sink input n id board known empty asks_it replays. lost_answers jobs source sink input n id board known empty asks_it replays.0;
+  lacking = λ source sink input n id board report known empty asks_it replays. lacking_answers jobs source sink input n id board known empty asks_it replays.0;
+}
 
 -- ---- the reply to one line among others
 

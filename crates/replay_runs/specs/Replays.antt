@@ -26,6 +26,7 @@ use Rattle.batch_runs.specs.Batches.{AreAll, AreFirst, LosesLine, IsReadable, Ha
 use Rattle.batch_runs.specs.Headline.{IsTrueOfBoard}
 use Rattle.batch_runs.specs.Meanings.{questions, IsQuestion, Names, HasFault}
 use Rattle.batch_runs.specs.declared.faults.LinesFault.{LinesFault}
+use Rattle.batch_runs.specs.declared.report.NoReport.{NoReport}
 use Rattle.batch_runs.specs.declared.faults.LinesFault.TheVariants.{Read, Write, Memory}
 use Rattle.batch_runs.specs.FirstLines.{IsPassedOver, FindsFirst}
 use Rattle.replay_runs.specs.Replies.{Reply, TextSays, replies_text, are_fine, replay_status_of}
@@ -41,7 +42,7 @@ pub record Jobs : Type 1 where
 abbrev pub IsGuidedJob : Job → Type 0
 IsGuidedJob job = IsJob job × IsLowerBound job.task.rule job.task.sum job.task.goal
 
--- ---- the board line
+-- ---- the board line: the first line that isn't passed over
 
 -- the line has a fault with this code; or it names a board, and memory was refused
 abbrev pub IsLineRefusedBy : Jobs → List ℕ → List ℕ → Type 0
@@ -144,11 +145,11 @@ ReportsRefusal sink code n (Err (Memory lacking)) = sink.after ≡ sink.before
 
 -- ---- laws: the contracts of functions without effect
 
--- of these lines, the first that asks has this number, and it names this board by this id
+-- of these lines, the board line has this number, and it names this board by this id
 abbrev pub AsksFirst : Jobs → List (List ℕ) → ℕ → List ℕ → BoardModel → Type 0
 AsksFirst jobs lines n id board = (line : List ℕ) × IsQuestion lines 0 n line × Names jobs.grid line id board
 
--- The board that is played is the one that the first asking line names, and the lines behind that line are replied to in a run of its job.
+-- The board that is played is the one that the board line names, and the lines behind that line are replied to in a run of its job.
 -- The outcome at the end answers the task of that board, with its rows and without them, and the world that the run reaches gives it.
 pub record PlaysNamedBoards (jobs : Jobs) : Type 0 where
   pub played :
@@ -163,7 +164,7 @@ pub record PlaysNamedBoards (jobs : Jobs) : Type 0 where
       → Answers (jobs.job board).task outcome × EndAnswers (jobs.job board).task (without_rows outcome)
       × ((w : WorldState) × IsPlay jobs lines name replies w × IsReportOf w outcome)
 
--- A refusal is that of the first asking line of a known input. Where the line names a board, V3 refuses it, and memory was refused for the
+-- A refusal is that of the board line of a known input. Where the line names a board, V3 refuses it, and memory was refused for the
 -- board. Where it names none, it is refused by the code of a fault that it has.
 pub record RefusesFirstLines (jobs : Jobs) : Type 0 where
   pub named :
@@ -211,8 +212,8 @@ pub record AnswersNamedBoard (jobs : Jobs) (lines : List (List ℕ)) (n : ℕ) (
 abbrev pub LacksBoard : Jobs → ℕ → BoardModel → List ℕ → ℕ → Type 0
 LacksBoard jobs n board output status = jobs.lacks board × (output ≡ report_text (refused_data (codes "V3") n)) × (status ≡ 1)
 
--- What a replay that ends well leaves in an empty sink. Where the first asking line of the input names a board, the output answers the board,
--- or V3 refuses the line. Where that line names none, the output is the report of a fault of the line. Where no line asks, it is empty.
+-- What a replay that ends well leaves in an empty sink. Where the board line of the input names a board, the output answers the board,
+-- or V3 refuses the line. Where that line names none, the output is the report of a fault of the line. Where there is no board line, it is empty.
 pub record LeavesAnswers (jobs : Jobs) (source : Change SourceState) (sink : Change SinkState) (status : ℕ) (input output : List ℕ) : Type 0 where
   pub left : sink.after.contents ≡ Some output
   pub named :
@@ -255,7 +256,7 @@ pub record BeginsAnswer (jobs : Jobs) (sink : Change SinkState) (lines : List (L
       RepliesToFirstSteps jobs lines n board (written ++ unwritten)
       ⊎ ((status : ℕ) × (AnswersNamedBoard jobs lines n id board (written ++ unwritten) status ⊎ LacksBoard jobs n board (written ++ unwritten) status))
 
--- where the input is known, its first asking line names the board, and the sink was empty, a replay that ends early leaves such a beginning
+-- where the input is known, its board line names the board, and the sink was empty, a replay that ends early leaves such a beginning
 abbrev pub EarlyReplaysBeginAnswers : Jobs → Type 0
 EarlyReplaysBeginAnswers jobs =
     (source : Change SourceState) (sink : Change SinkState) (fault : LinesFault) (input : List ℕ) (n : ℕ) (id : List ℕ) (board : BoardModel)
@@ -264,6 +265,37 @@ EarlyReplaysBeginAnswers jobs =
     → AsksFirst jobs (lines_of input) n id board
     → Replays jobs source sink (Err fault)
     → BeginsAnswer jobs sink (lines_of input) n id board
+
+-- the text has a reply to each of these lines behind line n, whose steps are a run of the board's job, and nothing else
+pub record RepliesToAllSteps (jobs : Jobs) (lines : List (List ℕ)) (n : ℕ) (board : BoardModel) (text : List ℕ) : Type 0 where
+  pub replies : List Reply
+  pub via : Move
+  pub end : WorldState
+  pub replied : IsReplied (from_to (opening (jobs.job board) via) end) (drop n lines) replies
+  pub is : text ≡ replies_text replies
+
+-- the sink holds such replies to all of these lines
+abbrev pub HoldsReplies : Jobs → Change SinkState → List (List ℕ) → ℕ → BoardModel → Type 0
+HoldsReplies jobs sink lines n board = (text : List ℕ) × (sink.after.contents ≡ Some text) × RepliesToAllSteps jobs lines n board text
+
+-- Where the input is known, its board line names the board, and the sink was empty, a replay that loses a line leaves the replies to all lines
+-- that were read whole, and nothing where each of these is passed over. One that lacks memory for the report leaves the replies to all lines of
+-- the input, and nothing where memory was refused for the board.
+pub record EarlyReplaysAnswerAllRead (jobs : Jobs) : Type 0 where
+  pub lost :
+      (source : Change SourceState) (sink : Change SinkState) (input : List ℕ) (n : ℕ) (id : List ℕ) (board : BoardModel)
+      → source.before.left ≡ Some input
+      → sink.before.contents ≡ Some []
+      → AsksFirst jobs (lines_of input) n id board
+      → Replays jobs source sink (Err Read)
+      → (read : List (List ℕ)) × LosesLine source read × ((All IsPassedOver read × (sink.after.contents ≡ Some [])) ⊎ HoldsReplies jobs sink read n board)
+  pub lacking :
+      (source : Change SourceState) (sink : Change SinkState) (input : List ℕ) (n : ℕ) (id : List ℕ) (board : BoardModel) (report : NoReport)
+      → source.before.left ≡ Some input
+      → sink.before.contents ≡ Some []
+      → AsksFirst jobs (lines_of input) n id board
+      → Replays jobs source sink (Err (Memory report))
+      → (jobs.lacks board × (sink.after.contents ≡ Some [])) ⊎ HoldsReplies jobs sink (lines_of input) n board
 
 -- ---- laws of the replies to lines, whatever the board
 
@@ -314,7 +346,7 @@ abbrev pub SayTheirSteps : List (List ℕ) → Type 0
 SayTheirSteps [] = ⊤
 SayTheirSteps (line ∷ lines) = (IsPassedOver line ⊎ ((step : Step) × (line_kind_of line ≡ Within) × TextSays (without_return line) step)) × SayTheirSteps lines
 
--- The last line of what answers the board that the first asking line names is read as JSON, and what it says of the board is true. The status is
+-- The last line of what answers the board that the board line names is read as JSON, and what it says of the board is true. The status is
 -- 0 where it says a least plan or that there is none, and each line behind the board line is passed over or says a step. Else it is 1.
 abbrev pub ReplayReportsAreTrue : Jobs → Type 0
 ReplayReportsAreTrue jobs =
@@ -325,7 +357,7 @@ ReplayReportsAreTrue jobs =
     × ((status ≡ 0) ↔ (SayTheirSteps (drop n lines) × (HasStatus d (codes "optimal") ⊎ HasStatus d (codes "unsolvable"))))
     × ((status ≡ 0) ⊎ (status ≡ 1))
 
--- where the first asking line of a known input is refused, no line behind it is taken
+-- where the board line of a known input is refused, no line behind it is taken
 abbrev pub RefusedBoardsLeaveTheRest : Jobs → Type 0
 RefusedBoardsLeaveTheRest jobs =
     (source : Change SourceState) (input rest output : List ℕ)

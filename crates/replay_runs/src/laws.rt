@@ -1,8 +1,10 @@
-//! The laws of replies and of replays: each is the contract of a function without effect.
+//! The laws of replies and of replays: each is the contract of a function without effect. The board
+//! line is the first line that isn't passed over.
 
 ghost use Rattle.replay_runs.specs.Replays.{PlaysNamedBoards, RefusesFirstLines};
 ghost use Rattle.replay_runs.specs.Replays.{FailedReplayWritesAreTold, FailedReplayReadsAreTold};
 ghost use Rattle.replay_runs.specs.Replays.{ReplayOutputsAreAnswers, EarlyReplaysBeginAnswers};
+ghost use Rattle.replay_runs.specs.Replays.{EarlyReplaysAnswerAllRead};
 ghost use Rattle.replay_runs.specs.Replays.{SaidStepsAreAnswered, UnsaidStepsAreRefused};
 ghost use Rattle.replay_runs.specs.Replays.{PassedLinesAreSilent, ReplayReportsAreTrue};
 ghost use Rattle.replay_runs.specs.Replays.{RefusedBoardsLeaveTheRest};
@@ -21,8 +23,8 @@ pub fn steps_are_taken(bytes: &[u8])
     let _ = read_step(bytes);
 }
 
-/// The board that is played is the one that the first asking line names, and the outcome at the end
-/// answers its task.
+/// The board that is played is the one that the board line names, and the outcome at the end answers
+/// its task.
 #[tactic(auto, using(crate::proofs::ReadLemmas::plays_named))]
 pub fn named_boards_are_played<R: Run, O: Opener<R>>(opener: &O)
     ensures { PlaysNamedBoards (O.jobs opener.now) }
@@ -30,8 +32,8 @@ pub fn named_boards_are_played<R: Run, O: Opener<R>>(opener: &O)
     let _ = opener;
 }
 
-/// A refusal tells of the first asking line: a fault of it, or that memory was refused for the
-/// board that it names.
+/// A refusal tells of the board line: a fault of it, or that memory was refused for the board that
+/// it names.
 #[tactic(auto, using(crate::proofs::ReadLemmas::refuses_first))]
 pub fn first_lines_are_refused<R: Run, O: Opener<R>>(opener: &O)
     ensures { RefusesFirstLines (O.jobs opener.now) }
@@ -48,8 +50,8 @@ pub fn failed_streams_are_told<R: Run, O: Opener<R>>(opener: &O)
 }
 
 /// Where the input is known and the output was empty, a replay that ends well leaves an answer to
-/// the board that the first asking line names, or the refusal of that line; or nothing, where no
-/// line asks.
+/// the board that the board line names, or the refusal of that line; or nothing, where there is no
+/// board line.
 #[tactic(auto, using(crate::proofs::ReadLemmas::outputs_answer))]
 pub fn replay_outputs_are_answers<R: Run, O: Opener<R>>(opener: &O)
     ensures { ReplayOutputsAreAnswers (O.jobs opener.now) }
@@ -62,6 +64,15 @@ pub fn replay_outputs_are_answers<R: Run, O: Opener<R>>(opener: &O)
 #[tactic(auto, using(crate::proofs::ReadLemmas::early_begins))]
 pub fn early_replays_begin_answers<R: Run, O: Opener<R>>(opener: &O)
     ensures { EarlyReplaysBeginAnswers (O.jobs opener.now) }
+{
+    let _ = opener;
+}
+
+/// Where a line was lost, a replay leaves the replies to all lines that were read whole. Where memory
+/// was refused for a report, it leaves those to all lines, or nothing, if the board was refused.
+#[tactic(auto, using(crate::proofs::ReadLemmas::early_answers))]
+pub fn early_replays_answer_all_read<R: Run, O: Opener<R>>(opener: &O)
+    ensures { EarlyReplaysAnswerAllRead (O.jobs opener.now) }
 {
     let _ = opener;
 }
