@@ -278,9 +278,9 @@ pub record RepliesToAllSteps (jobs : Jobs) (lines : List (List ℕ)) (n : ℕ) (
 abbrev pub HoldsReplies : Jobs → Change SinkState → List (List ℕ) → ℕ → BoardModel → Type 0
 HoldsReplies jobs sink lines n board = (text : List ℕ) × (sink.after.contents ≡ Some text) × RepliesToAllSteps jobs lines n board text
 
--- Where the input is known, its board line names the board, and the sink was empty, a replay that loses a line leaves the replies to all lines
--- that were read whole, and nothing where each of these is passed over. One that lacks memory for the report leaves the replies to all lines of
--- the input, and nothing where memory was refused for the board.
+-- The input is known, its board line names the board, and the sink was empty. A replay that loses a line leaves the replies to all lines that
+-- were read whole, and nothing where each of these is passed over. One that lacks memory for the report leaves the replies to all lines of the
+-- input, and nothing where memory was refused for the board.
 pub record EarlyReplaysAnswerAllRead (jobs : Jobs) : Type 0 where
   pub lost :
       (source : Change SourceState) (sink : Change SinkState) (input : List ℕ) (n : ℕ) (id : List ℕ) (board : BoardModel)
