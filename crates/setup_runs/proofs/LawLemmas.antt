@@ -1,5 +1,5 @@
 -- The bounds that a board may be answered.
-use Rattle.std.proofs.Common.{arith, ℕ, ⊥, ◌≡◌, ◌<◌, ◌≤◌, ◌+◌, ◌*◌, ◌++◌, List, Option, Vec, ◌∙◌, ◌⊎◌, refl, ap, subst, inl, inr}
+use Rattle.std.proofs.Common.{arith, ℕ, ◌≡◌, ◌<◌, ◌≤◌, ◌+◌, ◌*◌, ◌++◌, List, Option, Vec, ◌∙◌, ◌⊎◌, refl, ap, subst, inl, inr}
 use Rattle.std.specs.declared.alloc.Global.{Global}
 use Rattle.board.specs.declared.moves.Move.{Move}
 use Rattle.board.specs.Boards.{BoardModel}
@@ -31,6 +31,7 @@ use Rattle.std.specs.FinMap as map
 use Rattle.std.specs.Prelude.{min, ◌^◌, ◌-◌, sum_by}
 use Rattle.board.specs.Classes.{SameClass}
 use Rattle.world_ends.specs.declared.figures.Figures.{Figures}
+use Rattle.world_ends.specs.declared.reading.EndingWithFigures.{EndingWithFigures}
 use Rattle.batch_runs.specs.declared.stats.Solved.{Solved}
 use Rattle.setup_runs.specs.Solving.{problem_of, problem_within, IsFound, IsFoundByOne, IsFoundWithin, IsNoBound}
 use Rattle.hda_run.proofs.LawLemmas.{one_class}
@@ -47,7 +48,7 @@ found_of_world :
 found_of_world {X} gives end setup b answer = by_run
   where
     alone : (limit : ℕ) → limit ≤ setup.limit → IsFoundAlone gives owner_by (problem_within limit setup b) setup.spread answer → (w : WorldState) × (w.task ≡ task_of_setup setup b) × gives w answer × (expansion_count w ≤ setup.limit)
-    alone limit within (w, run, given) = (w, task_alone limit setup b w run, given, let few = run.within_limit in omega (arith, few, within))
+    alone limit within (w, run, given) = (w, task_alone limit setup b w run, given, (let few : expansion_count w ≤ limit = run.within_limit in omega (arith, few, within)))
 
     by_run : IsFound gives end setup b answer → (w : WorldState) × (w.task ≡ task_of_setup setup b) × gives w answer × (expansion_count w ≤ setup.limit)
     by_run (inl (inl (several, (w, joined, (kept, given))))) = (w, joined.task, given, joined.within_limit)
@@ -62,23 +63,32 @@ pub certified_of_worlds : CertifiedOutcomesAreOfWorlds
 certified_of_worlds setup b given same (answers, inl (together, run)) = found_of_world IsGiven without_rows setup b given run.0
 certified_of_worlds setup b given same (answers, inr (other, is)) = absurd (other same)
 
+-- what one worker finds within a limit took no more expansions
+spent_alone :
+    (limit : ℕ) (setup : SetupModel) (start : BoardModel) (found : EndingWithFigures)
+    → IsFoundAlone EndsWithFigures owner_by (problem_within limit setup start) setup.spread found
+    → found.figures.expanded ≤ limit
+spent_alone limit setup start found (w, run, gives) =
+    let within : expansion_count w ≤ limit = run.within_limit in
+    let is : found.figures.expanded ≡ expansion_count w = gives.1.expanded in
+    omega (arith, within, is)
+
+-- one of several workers ends no hard board
+not_too_hard :
+    (limit : ℕ) (setup : SetupModel) (found : EndingWithFigures)
+    → limit ≤ 2000000
+    → found.figures.expanded ≤ limit
+    → (2000000 < found.figures.expanded) ⊎ ((2000000 < setup.limit) × (¬ IsNoBound found.ending))
+    → (limit ≡ setup.limit) ⊎ ((2 ≤ setup.workers) × IsNoBound found.ending)
+    → ⊥
+not_too_hard limit setup found few spent (inl many) whole = absurd (omega (arith, few, spent, many))
+not_too_hard limit setup found few spent (inr (more, bound)) (inl e) = absurd (omega (arith, few, more, e))
+not_too_hard limit setup found few spent (inr (more, bound)) (inr (others, none)) = bound none
+
 pub hard_shared : HardBoardsAreShared
 hard_shared setup start found several (inl shared) hard = shared
-hard_shared setup start found several (inr (limit, by)) hard = absurd (too_hard hard by.whole)
-  where
-    few : limit ≤ 2000000
-    few = by.few several
-
-    spent : found.figures.expanded ≤ 2000000
-    spent = by_run by.run
-      where
-        by_run : IsFoundAlone EndsWithFigures owner_by (problem_within limit setup start) setup.spread found → found.figures.expanded ≤ 2000000
-        by_run (w, run, gives) = let within = run.within_limit in let is = gives.1.expanded in omega (arith, few, within, is)
-
-    too_hard : (2000000 < found.figures.expanded) ⊎ ((2000000 < setup.limit) × (¬ IsNoBound found.ending)) → (limit ≡ setup.limit) ⊎ ((2 ≤ setup.workers) × IsNoBound found.ending) → ⊥
-    too_hard (inl many) whole = absurd (omega (arith, many, spent))
-    too_hard (inr (more, bound)) (inl e) = absurd (omega (arith, more, few, e))
-    too_hard (inr (more, bound)) (inr (others, none)) = bound none
+hard_shared setup start found several (inr (limit, by)) hard =
+    absurd (not_too_hard limit setup found (by.few several) (spent_alone limit setup start found by.run) hard by.whole)
 
 pub hard_bounded : HardBoardsAreBounded
 hard_bounded setup start hard = by_run hard.run

@@ -45,7 +45,7 @@ pub fn certified_ends_are_answered()
 {}
 
 /// Stats are those of a world that ends so.
-#[tactic(auto, using(crate::proofs::LawLemmas::stats_of_worlds, crate::proofs::LawLemmas::stats_of_setups))]
+#[tactic(auto, using(crate::proofs::LawLemmas::stats_of_setups))]
 pub fn stats_are_of_worlds()
     ensures worlds { StatsAreOfWorlds }
     ensures setups { StatsAreOfTheSetups }
