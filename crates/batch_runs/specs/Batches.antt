@@ -206,6 +206,10 @@ IsReadable source = source.after.has_failed ≡ false
 abbrev pub HasFailed : SinkState → Type 0
 HasFailed sink = sink.has_failed ≡ true
 
+-- what was put is flushed, or nothing was put, or the sink has failed
+abbrev pub LeavesFlushed : {K : Type 0} → (K → Type 0) → (K → SinkState) → K → K → Type 0
+LeavesFlushed is_flushed state before after = is_flushed after ⊎ (after ≡ before) ⊎ HasFailed (state after)
+
 -- the sink has failed only if it had before
 abbrev pub KeepsFailure : Change SinkState → Type 0
 KeepsFailure sink = sink.after.has_failed ≡ sink.before.has_failed

@@ -1,9 +1,9 @@
 //! Lines in, reports out, by any solver.
 
-ghost use Rattle.std.specs.Prelude.{◌≡◌, ◌⊎◌, OnOk};
+ghost use Rattle.std.specs.Prelude.{◌≡◌, OnOk};
 ghost use Rattle.byte_streams.specs.Streams.{change};
 ghost use Rattle.byte_streams.specs.Sink.{Writes};
-ghost use Rattle.batch_runs.specs.Batches.{ReportsLines, IsTruthful, CanCountMore, HasFailed};
+ghost use Rattle.batch_runs.specs.Batches.{ReportsLines, IsTruthful, CanCountMore, LeavesFlushed};
 ghost use Rattle.batch_runs.specs.Batches.{with_outcome, with_refused};
 ghost use Rattle.batch_runs.specs.Headline.{IsTrueRun};
 ghost use Rattle.batch_runs.specs.Stats.{HandsFigures};
@@ -69,8 +69,7 @@ pub fn run_lines<S: Source, K: Sink, A: Solver>(
         (change K.state sink.old sink.new) result }
     ensures truth { IsTruthful (A.rules solver.now) → IsTrueRun (A.rules solver.now)
         (change S.state source.old source.new) (change K.state sink.old sink.new) result }
-    ensures flushed { K.is_flushed sink.new ⊎ (sink.new ≡ sink.old)
-        ⊎ HasFailed (K.state sink.new) }
+    ensures flushed { LeavesFlushed K.is_flushed K.state sink.old sink.new }
     ensures figures { HandsFigures (A.rules solver.now) (λ id b solved. A.has_stats solver.now b solved
         × A.has_observed solver.now id solved) (S.state source.old).left
         (change K.state sink.old sink.new) }
@@ -88,8 +87,7 @@ fn report_all<S: Source, K: Sink, A: Solver>(
     requires callable { A.is_callable solver.now }
     ensures reports { ReportsLines (A.rules solver.now) (change S.state source.old source.new)
         (change K.state sink.old sink.new) result }
-    ensures flushed { K.is_flushed sink.new ⊎ (sink.new ≡ sink.old)
-        ⊎ HasFailed (K.state sink.new) }
+    ensures flushed { LeavesFlushed K.is_flushed K.state sink.old sink.new }
     ensures figures { HandsFigures (A.rules solver.now) (λ id b solved. A.has_stats solver.now b solved
         × A.has_observed solver.now id solved) (S.state source.old).left
         (change K.state sink.old sink.new) }

@@ -1,6 +1,6 @@
 //! A line in, a certificate out.
 
-ghost use Rattle.std.specs.Prelude.{ℕ, ◌≡◌, ◌≢◌, ◌≤◌, ◌⊎◌, All, IfOk, IfErr, OnOk, OnErr};
+ghost use Rattle.std.specs.Prelude.{ℕ, ◌≡◌, ◌≢◌, ◌≤◌, All, IfOk, IfErr, OnOk, OnErr};
 ghost use Rattle.std.specs.Prelude.{slice_index};
 ghost use Rattle.pattern_search.specs.declared.finding.TheConstants.{NO_VALUE};
 ghost use Rattle.byte_streams.specs.Streams.{change};
@@ -12,7 +12,7 @@ ghost use Rattle.batch_lines.specs.declared.lines.LineKind.TheVariants.{PassedOv
 ghost use Rattle.certificate.specs.Certificates.{IsBoardOf, cost_of, plan_of};
 ghost use Rattle.certificate.specs.Spellings.{spelling};
 ghost use Rattle.certificate_runs.specs.declared.faults.CertifyFault.{CertifyFault};
-ghost use Rattle.batch_runs.specs.Batches.{HasFailed, no_lines, with_outcome, status_of_counts};
+ghost use Rattle.batch_runs.specs.Batches.{LeavesFlushed, no_lines, with_outcome, status_of_counts};
 ghost use Rattle.batch_runs.specs.Setups.{SetupModel, task_of_setup};
 ghost use Rattle.certificate_runs.specs.Rules.{ProofRules, MayProve};
 ghost use Rattle.certificate_runs.specs.Certifying.{Replies, PutsReply};
@@ -86,8 +86,7 @@ pub fn certify_first<S: Source, K: Sink, A: Prover>(
         (change S.state source.old source.new) (change K.state sink.old sink.new) result }
     ensures truth { IsTrueAnswer (A.setup prover.now).tables.split (A.rules prover.now)
         (change S.state source.old source.new) (change K.state sink.old sink.new) result }
-    ensures flushed { K.is_flushed sink.new ⊎ (sink.new ≡ sink.old)
-        ⊎ HasFailed (K.state sink.new) }
+    ensures flushed { LeavesFlushed K.is_flushed K.state sink.old sink.new }
 {
     reply_to_first(alloc, source, sink, prover)
 }
@@ -102,8 +101,7 @@ fn reply_to_first<S: Source, K: Sink, A: Prover>(
     requires callable { A.is_callable prover.now }
     ensures replies { Replies (A.setup prover.now).tables.split (A.rules prover.now)
         (change S.state source.old source.new) (change K.state sink.old sink.new) result }
-    ensures flushed { K.is_flushed sink.new ⊎ (sink.new ≡ sink.old)
-        ⊎ HasFailed (K.state sink.new) }
+    ensures flushed { LeavesFlushed K.is_flushed K.state sink.old sink.new }
 {
     let mut reader = LineReader::new();
     match find_line(source, &mut reader) {

@@ -1,8 +1,8 @@
 //! A certificate in, the same in version 2 out.
 
-ghost use Rattle.std.specs.Prelude.{◌≡◌, ◌⊎◌};
+ghost use Rattle.std.specs.Prelude.{ ◌⊎◌};
 ghost use Rattle.byte_streams.specs.Streams.{change};
-ghost use Rattle.batch_runs.specs.Batches.{HasFailed};
+ghost use Rattle.batch_runs.specs.Batches.{LeavesFlushed};
 ghost use Rattle.certificate_runs.specs.Upgrading.{Upgrades};
 ghost use Rattle.certificate_runs.specs.Headline.{IsTrueUpgrade};
 
@@ -27,8 +27,7 @@ pub fn run_upgrade<S: Source, K: Sink>(
         (change K.state sink.old sink.new) result }
     ensures truth { IsTrueUpgrade (change S.state source.old source.new)
         (change K.state sink.old sink.new) result }
-    ensures flushed { K.is_flushed sink.new ⊎ (sink.new ≡ sink.old)
-        ⊎ HasFailed (K.state sink.new) }
+    ensures flushed { LeavesFlushed K.is_flushed K.state sink.old sink.new }
 {
     upgrade_source(alloc, source, sink)
 }
@@ -41,8 +40,7 @@ fn upgrade_source<S: Source, K: Sink>(
 ) -> Result<u8, UpgradeFault>
     ensures upgrades { Upgrades (change S.state source.old source.new)
         (change K.state sink.old sink.new) result }
-    ensures flushed { K.is_flushed sink.new ⊎ (sink.new ≡ sink.old)
-        ⊎ HasFailed (K.state sink.new) }
+    ensures flushed { LeavesFlushed K.is_flushed K.state sink.old sink.new }
 {
     match read(alloc, source) {
         Ok(certificate) => match put_certificate(sink, &certificate.upgrade()) {

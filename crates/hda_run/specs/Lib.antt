@@ -7,5 +7,6 @@ pub mod Kinds
 pub mod Headline
 pub mod Alone
 pub mod WholeRuns
+pub mod Answered
 pub mod Rounds
 pub mod Laws

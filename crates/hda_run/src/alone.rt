@@ -19,6 +19,7 @@ ghost use Rattle.world_model.specs.Outcomes.{IsGiven};
 ghost use Rattle.world_model.specs.Steps.{Next};
 ghost use Rattle.world_model.specs.Turns.{turn, refusal_in};
 ghost use Rattle.hda_run.specs.Alone.{IsRunAlone, IsFoundAlone};
+ghost use Rattle.hda_run.specs.Answered.{IsAnswered};
 ghost use Rattle.hda_run.specs.Jobs.{task_in};
 ghost use Rattle.hda_run.specs.Rounds.{IsLone, Reaches, work_left, RefusesStep, IsStuck};
 ghost use Rattle.hda_run.specs.Rounds.{IsBoundSoFar, Stops};
@@ -86,11 +87,8 @@ pub fn read_one<'a, A: Reading, S: Spread, G: Gate>(
     spread: &'a S,
     gate: &G,
 ) -> Result<A::Answer, OutOfMemory>
-    ensures parity { (result ≡ Ok A.parity) ↔ (¬ SameClass job.entry.start job.entry.goal) }
-    ensures run { SameClass job.entry.start job.entry.goal
-        → IfOk result (IsFoundAlone A.gives S.owner_of job.entry spread.now) }
-    ensures answers { IfOk result (A.answers (task_in job.entry)) }
-    ensures kept { IfOk result (λ answer. EndsWholeRun (A.end answer)) }
+    ensures { IsAnswered A.parity (IsFoundAlone A.gives S.owner_of job.entry spread.now)
+        A.answers A.end job.entry result }
 {
     read_one_over::<A, S, G>(alloc, job, spread, gate, &mut SearchLists::new(alloc))
 }
@@ -107,11 +105,8 @@ pub fn read_one_over<'a, A: Reading, S: Spread, G: Gate>(
     lists: &mut SearchLists,
 ) -> Result<A::Answer, OutOfMemory>
     ensures few { (length lists.new.closed.keys ≤ KEPT_BOARDS) ⊎ (lists.new ≡ lists.old) }
-    ensures parity { (result ≡ Ok A.parity) ↔ (¬ SameClass job.entry.start job.entry.goal) }
-    ensures run { SameClass job.entry.start job.entry.goal
-        → IfOk result (IsFoundAlone A.gives S.owner_of job.entry spread.now) }
-    ensures answers { IfOk result (A.answers (task_in job.entry)) }
-    ensures kept { IfOk result (λ answer. EndsWholeRun (A.end answer)) }
+    ensures answered { IsAnswered A.parity
+        (IsFoundAlone A.gives S.owner_of job.entry spread.now) A.answers A.end job.entry result }
 {
     A::keep_laws();
     // By this law no plan leads from a board to another class.

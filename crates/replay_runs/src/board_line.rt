@@ -1,10 +1,10 @@
 //! The board line, and the replay that it begins.
 
-ghost use Rattle.std.specs.Prelude.{◌≡◌, ◌≤◌, ◌⊎◌, IfOk, IfErr, OnErr, List, ℕ, length};
+ghost use Rattle.std.specs.Prelude.{◌≡◌, ◌≤◌, IfOk, IfErr, OnErr, List, ℕ, length};
 ghost use Rattle.board.specs.declared.moves.Move.{Move};
 ghost use Rattle.byte_streams.specs.Streams.{change};
 ghost use Rattle.world_model.specs.Openings.{opening};
-ghost use Rattle.batch_runs.specs.Batches.{HasFailed};
+ghost use Rattle.batch_runs.specs.Batches.{LeavesFlushed};
 ghost use Rattle.replay_runs.specs.Replays.{Jobs, IsGuidedJob, IsReadLine, OpensRun};
 ghost use Rattle.replay_runs.specs.Replays.{IsLineRefusedBy};
 ghost use Rattle.replay_runs.specs.Replays.{Replays, ReportsRefusal};
@@ -47,8 +47,7 @@ pub fn replay_lines<S: Source, K: Sink, R: Run + Drop, O: Opener<R> + Drop>(
     requires { (O.jobs opener).grid ≡ shape }
     ensures replays { Replays (O.jobs opener) (change S.state source.old source.new)
         (change K.state sink.old sink.new) result }
-    ensures flushed { K.is_flushed sink.new ⊎ (sink.new ≡ sink.old)
-        ⊎ HasFailed (K.state sink.new) }
+    ensures flushed { LeavesFlushed K.is_flushed K.state sink.old sink.new }
 {
     let mut reader = LineReader::new();
     let found = match find_line(source, &mut reader) {
@@ -98,8 +97,7 @@ fn open_run<'a, R: Run + Drop, O: Opener<R> + Drop>(
 // Writes the report of a line that is refused. Answers the status 1.
 fn refuse<K: Sink>(alloc: Global, sink: &mut K, code: &str, number: u64) -> Result<u8, LinesFault>
     ensures refuses { ReportsRefusal (change K.state sink.old sink.new) code.now number result }
-    ensures flushed { K.is_flushed sink.new ⊎ (sink.new ≡ sink.old)
-        ⊎ HasFailed (K.state sink.new) }
+    ensures flushed { LeavesFlushed K.is_flushed K.state sink.old sink.new }
 {
     let report = match refused_report(alloc, code, number) {
         Ok(report) => report,

@@ -1,8 +1,8 @@
 //! Replays with the worlds of a setup.
 
-ghost use Rattle.std.specs.Prelude.{◌≡◌, ◌⊎◌};
+ghost use Rattle.std.specs.Prelude.{ ◌⊎◌};
 ghost use Rattle.byte_streams.specs.Streams.{change};
-ghost use Rattle.batch_runs.specs.Batches.{HasFailed};
+ghost use Rattle.batch_runs.specs.Batches.{LeavesFlushed};
 ghost use Rattle.replay_runs.specs.Replays.{Replays};
 ghost use Rattle.replay_runs.specs.Openings.{setup_jobs, jobs_by};
 
@@ -33,8 +33,7 @@ pub fn run_replay<R: Threads + Sync, S: Source, K: Sink>(
 ) -> Result<u8, LinesFault>
     ensures replays { Replays (setup_jobs setup.now) (change S.state source.old source.new)
         (change K.state sink.old sink.new) result }
-    ensures flushed { K.is_flushed sink.new ⊎ (sink.new ≡ sink.old)
-        ⊎ HasFailed (K.state sink.new) }
+    ensures flushed { LeavesFlushed K.is_flushed K.state sink.old sink.new }
 {
     // The calling thread takes the steps of all workers: none is started for them.
     let _ = rt;
@@ -61,8 +60,7 @@ fn replay_spread<S: Source, K: Sink, P: Spread>(
 ) -> Result<u8, LinesFault>
     ensures replays { Replays (jobs_by (P.owner_of spread.now) setup.now)
         (change S.state source.old source.new) (change K.state sink.old sink.new) result }
-    ensures flushed { K.is_flushed sink.new ⊎ (sink.new ≡ sink.old)
-        ⊎ HasFailed (K.state sink.new) }
+    ensures flushed { LeavesFlushed K.is_flushed K.state sink.old sink.new }
 {
     let opening = Opening { setup, spread };
     replay_lines(alloc, source, sink, setup.shape(), opening)

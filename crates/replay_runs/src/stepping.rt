@@ -1,6 +1,6 @@
 //! Lines that say steps, and the report at their end.
 
-ghost use Rattle.std.specs.Prelude.{◌≡◌, ◌≢◌, ◌⊎◌, IfOk, OnOk, List, ℕ, Option};
+ghost use Rattle.std.specs.Prelude.{◌≡◌, ◌≢◌, IfOk, OnOk, List, ℕ, Option};
 ghost use Rattle.byte_streams.specs.Streams.{SourceState, change, from_to};
 ghost use Rattle.batch_lines.specs.declared.lines.LineKind.TheVariants.{PassedOver};
 ghost use Rattle.world_model.specs.declared.steps.Refusal.{Refusal};
@@ -8,7 +8,7 @@ ghost use Rattle.world_model.specs.Turns.{turn, refusal_in};
 ghost use Rattle.world_model.specs.Worlds.{WorldState};
 ghost use Rattle.world_model.specs.Steps.{Next};
 ghost use Rattle.world_model.specs.Outcomes.{IsGiven};
-ghost use Rattle.batch_runs.specs.Batches.{HasFailed};
+ghost use Rattle.batch_runs.specs.Batches.{LeavesFlushed};
 ghost use Rattle.batch_runs.specs.FirstLines.{HasRead};
 ghost use Rattle.replay_runs.specs.Replies.{RepliesToKind, Changes, WritesReply, WritesLine};
 ghost use Rattle.replay_runs.specs.Replies.{reply_to, line_of, replay_status_of};
@@ -58,8 +58,7 @@ pub(crate) fn replay_steps<S: Source, K: Sink, R: Run + Drop>(
         → HasRead (from_to begun (S.state source.old)) reader.old lines
         → Finishes (from_to begun (S.state source.new)) lines (R.world opened.entry.run)
         opened.entry.id.now (change K.state sink.old sink.new) result }
-    ensures flushed { K.is_flushed sink.new ⊎ (sink.new ≡ sink.old)
-        ⊎ HasFailed (K.state sink.new) }
+    ensures flushed { LeavesFlushed K.is_flushed K.state sink.old sink.new }
 {
     let Opened { mut run, id } = opened;
     let said = match answer_lines(alloc, source, sink, reader, &mut run) {
@@ -101,8 +100,7 @@ fn answer_lines<S: Source, K: Sink, R: Run>(
         → HasRead (from_to begun (S.state source.old)) reader.old lines
         → RepliesToLines (from_to begun (S.state source.new)) lines
         (change R.world run.old run.new) (change K.state sink.old sink.new) result }
-    ensures flushed { K.is_flushed sink.new ⊎ (sink.new ≡ sink.old)
-        ⊎ HasFailed (K.state sink.new) }
+    ensures flushed { LeavesFlushed K.is_flushed K.state sink.old sink.new }
 {
     let mut said = true;
     'lines: loop {

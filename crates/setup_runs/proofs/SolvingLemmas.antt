@@ -103,22 +103,26 @@ module _ {X : Type 0} (gives : WorldState → X → Type 0) (setup : SetupModel)
     found_so end (Ok answer) found = inl (found_any answer found)
     found_so end (Err refused) found = found
 
+-- what is read of a job by one worker alone
+abbrev ReadAlone : {X : Type 0} (gives : WorldState → X → Type 0) (answers : Task → X → Type 0) (end : X → Ending) (parity : X) (p : JobModel) {S : Type 0} (owner_of : S → ℕ → BoardModel → ℕ) (owners : S) → Result X OutOfMemory → Type 0
+ReadAlone gives answers end parity p owner_of owners result = IsAnswered parity (IsFoundAlone gives owner_of p owners) answers end p result
+
 -- what one of the setup's workers finds within a limit is what a search may answer
-pub searched_by_one : {X : Type 0} (gives : WorldState → X → Type 0) (answers : Task → X → Type 0) (end : X → Ending) (parity : X) (setup : SetupModel) (start : BoardModel) (limit : ℕ) {S : Type 0} (owner_of : S → ℕ → BoardModel → ℕ) → AreWorkers owner_of → (owners : S) (answer : X) → limit ≤ setup.limit → (2 ≤ setup.workers → limit ≤ ENOUGH_EXPANDED) → (limit ≡ setup.limit) ⊎ ((2 ≤ setup.workers) × IsNoBound (end answer)) → (◌≡◌ {A = Result X OutOfMemory} (Ok answer) (Ok parity)) ↔ (¬ SameClass start setup.goal) → (SameClass start setup.goal → IsFoundAlone gives owner_of (problem_within limit setup start) owners answer) → answers (task_of_setup setup start) answer → EndsWholeRun (end answer) → IsSearched gives answers end parity setup start (Ok answer)
-searched_by_one gives answers end parity setup start limit owner_of are owners answer within few whole at_parity run answered kept =
+pub searched_by_one : {X : Type 0} (gives : WorldState → X → Type 0) (answers : Task → X → Type 0) (end : X → Ending) (parity : X) (setup : SetupModel) (start : BoardModel) (limit : ℕ) {S : Type 0} (owner_of : S → ℕ → BoardModel → ℕ) → AreWorkers owner_of → (owners : S) (answer : X) → limit ≤ setup.limit → (2 ≤ setup.workers → limit ≤ ENOUGH_EXPANDED) → (limit ≡ setup.limit) ⊎ ((2 ≤ setup.workers) × IsNoBound (end answer)) → ReadAlone gives answers end parity (problem_within limit setup start) owner_of owners (Ok answer) → IsSearched gives answers end parity setup start (Ok answer)
+searched_by_one gives answers end parity setup start limit owner_of are owners answer within few whole read =
     record {
-      at_parity = at_parity;
-      run = λ together. inr (limit, record { run = alone_any gives setup start limit owner_of are owners owner_by setup_owners setup.spread answer (run together); within = within; few = few; whole = whole });
-      answered = answered;
-      kept = kept;
+      parity = read.parity;
+      run = λ together. inr (limit, record { run = alone_any gives setup start limit owner_of are owners owner_by setup_owners setup.spread answer (read.run together); within = within; few = few; whole = whole });
+      answers = read.answers;
+      kept = read.kept;
     }
 
 -- so is what the only one finds within the setup's limit
-pub searched_alone : {X : Type 0} (gives : WorldState → X → Type 0) (answers : Task → X → Type 0) (end : X → Ending) (parity : X) (setup : SetupModel) (start : BoardModel) {S : Type 0} (owner_of : S → ℕ → BoardModel → ℕ) → AreWorkers owner_of → (owners : S) (result : Result X OutOfMemory) → setup.workers ≡ 1 → (result ≡ Ok parity) ↔ (¬ SameClass start setup.goal) → (SameClass start setup.goal → IfOk result (IsFoundAlone gives owner_of (problem_of setup start) owners)) → IfOk result (answers (task_of_setup setup start)) → IfOk result (λ answer. EndsWholeRun (end answer)) → IsSearched gives answers end parity setup start result
-searched_alone gives answers end parity setup start owner_of are owners (Ok answer) one at_parity run answered kept =
-    searched_by_one gives answers end parity setup start setup.limit owner_of are owners answer (omega arith) (λ several. omega (arith, one, several)) (inl refl) at_parity run answered kept
-searched_alone gives answers end parity setup start owner_of are owners (Err refused) one at_parity run answered kept =
-    record { at_parity = at_parity; run = run; answered = answered; kept = kept }
+pub searched_alone : {X : Type 0} (gives : WorldState → X → Type 0) (answers : Task → X → Type 0) (end : X → Ending) (parity : X) (setup : SetupModel) (start : BoardModel) {S : Type 0} (owner_of : S → ℕ → BoardModel → ℕ) → AreWorkers owner_of → (owners : S) (result : Result X OutOfMemory) → setup.workers ≡ 1 → ReadAlone gives answers end parity (problem_of setup start) owner_of owners result → IsSearched gives answers end parity setup start result
+searched_alone gives answers end parity setup start owner_of are owners (Ok answer) one read =
+    searched_by_one gives answers end parity setup start setup.limit owner_of are owners answer (omega arith) (λ several. omega (arith, one, several)) (inl refl) read
+searched_alone gives answers end parity setup start owner_of are owners (Err refused) one read =
+    record { parity = read.parity; run = read.run; answers = read.answers; kept = read.kept }
 
 -- the value of a result that has one
 abbrev value_or : {X : Type 0} → X → Result X OutOfMemory → X

@@ -15,6 +15,7 @@ use Rattle.world_model.specs.Worlds.{WorldState}
 use Rattle.world_ends.specs.Endings.{EndsIn}
 use Rattle.world_ends.specs.Readings.{EndsWithFigures}
 use Rattle.world_ends.specs.declared.figures.Figures.{Figures}
+use Rattle.hda_run.specs.Answered.{IsAnswered}
 use Rattle.hda_run.specs.Alone.{IsFoundAlone}
 use Rattle.hda_run.specs.Jobs.{JobModel, problem}
 use Rattle.hda_run.specs.WholeRuns.{EndsWholeRun, HasWholeRun}
@@ -59,13 +60,10 @@ IsFoundByOne gives end setup start answer = (limit : ℕ) × IsFoundWithin gives
 abbrev pub IsFound : {X : Type 0} → (WorldState → X → Type 0) → (X → Ending) → SetupModel → BoardModel → X → Type 0
 IsFound gives end setup start answer = IsFoundByWorkers gives owner_by (problem_of setup start) setup.spread setup.workers answer ⊎ IsFoundByOne gives end setup start answer
 
--- What a search by the setup's workers may answer for a board: its parity just where the board isn't in the goal's class, and else what a
--- run finds. Memory may be refused before the first step.
-pub record IsSearched {X : Type 0} (gives : WorldState → X → Type 0) (answers : Task → X → Type 0) (end : X → Ending) (parity : X) (setup : SetupModel) (start : BoardModel) (found : Result X OutOfMemory) : Type 0 where
-  pub at_parity : (found ≡ Ok parity) ↔ (¬ SameClass start setup.goal)
-  pub run : SameClass start setup.goal → IfOk found (IsFound gives end setup start)
-  pub answered : IfOk found (answers (task_of_setup setup start))
-  pub kept : IfOk found (λ answer. EndsWholeRun (end answer))
+-- what a search by the setup's workers may answer for a board: else than by parity, what a run finds; memory may be refused before the first
+-- step
+abbrev pub IsSearched : {X : Type 0} → (WorldState → X → Type 0) → (Task → X → Type 0) → (X → Ending) → X → SetupModel → BoardModel → Result X OutOfMemory → Type 0
+IsSearched gives answers end parity setup start found = IsAnswered parity (IsFound gives end setup start) answers end (problem_of setup start) found
 
 -- the ending is that of a run by the setup's workers, which are guided by its tables and keep to its limit, or by one of them
 abbrev pub IsOfRun : SetupModel → BoardModel → Ending → Type 0

@@ -1,8 +1,8 @@
 //! Batches of a setup.
 
-ghost use Rattle.std.specs.Prelude.{◌≡◌, ◌⊎◌, All, IfOk, IfSome};
+ghost use Rattle.std.specs.Prelude.{◌≡◌, All, IfOk, IfSome};
 ghost use Rattle.byte_streams.specs.Streams.{change};
-ghost use Rattle.batch_runs.specs.Batches.{ReportsLines, HasFailed, MayGive, AreAllowed};
+ghost use Rattle.batch_runs.specs.Batches.{ReportsLines, LeavesFlushed, MayGive, AreAllowed};
 ghost use Rattle.batch_runs.specs.Headline.{IsTrueRun};
 ghost use Rattle.batch_runs.specs.Stats.{HandsFigures};
 ghost use Rattle.setup_runs.specs.Solving.{HasStats, rules_of};
@@ -108,8 +108,7 @@ pub fn run_batch<R: Threads + Wait + Sync, S: Source, K: Sink, G: Gate + Sync>(
         (change K.state sink.old sink.new) result }
     ensures truth { IsTrueRun (rules_of setup.now) (change S.state source.old source.new)
         (change K.state sink.old sink.new) result }
-    ensures flushed { K.is_flushed sink.new ⊎ (sink.new ≡ sink.old)
-        ⊎ HasFailed (K.state sink.new) }
+    ensures flushed { LeavesFlushed K.is_flushed K.state sink.old sink.new }
 {
     run_watched(rt, alloc, source, sink, setup, &Unwatched { gate })
 }
@@ -129,8 +128,7 @@ pub fn run_watched<R: Threads + Wait + Sync, S: Source, K: Sink, W: Watch + Sync
         (change K.state sink.old sink.new) result }
     ensures truth { IsTrueRun (rules_of setup.now) (change S.state source.old source.new)
         (change K.state sink.old sink.new) result }
-    ensures flushed { K.is_flushed sink.new ⊎ (sink.new ≡ sink.old)
-        ⊎ HasFailed (K.state sink.new) }
+    ensures flushed { LeavesFlushed K.is_flushed K.state sink.old sink.new }
     ensures figures { HandsFigures (rules_of setup.now)
         (λ id b solved. HasStats setup.now b solved × W.has_taken watch.now id solved.stats)
         (S.state source.old).left (change K.state sink.old sink.new) }

@@ -2,7 +2,7 @@
 
 ghost use Rattle.std.specs.Prelude.{◌≡◌, ◌⊎◌};
 ghost use Rattle.byte_streams.specs.Streams.{change};
-ghost use Rattle.batch_runs.specs.Batches.{HasFailed};
+ghost use Rattle.batch_runs.specs.Batches.{LeavesFlushed};
 ghost use Rattle.certificate_runs.specs.Rules.{MayProve};
 ghost use Rattle.certificate_runs.specs.Certifying.{Replies};
 ghost use Rattle.certificate_runs.specs.Headline.{IsTrueAnswer};
@@ -85,8 +85,7 @@ pub fn run_cert<R: Threads + Wait + Sync, S: Source, K: Sink, G: Gate + Sync>(
         (change S.state source.old source.new) (change K.state sink.old sink.new) result }
     ensures truth { IsTrueAnswer setup.now.tables.split (certifying_rules_of setup.now)
         (change S.state source.old source.new) (change K.state sink.old sink.new) result }
-    ensures flushed { K.is_flushed sink.new ⊎ (sink.new ≡ sink.old)
-        ⊎ HasFailed (K.state sink.new) }
+    ensures flushed { LeavesFlushed K.is_flushed K.state sink.old sink.new }
 {
     let prove = |start: &Board| -> Result<Outcome, OutOfMemory>
         requires { start.now.grid ≡ setup.now.goal.grid }

@@ -5,6 +5,7 @@ ghost use Rattle.board.specs.Boards.{BoardModel};
 ghost use Rattle.board.specs.Classes.{SameClass};
 ghost use Rattle.batch_runs.specs.Setups.{owner_by, task_of_setup};
 ghost use Rattle.hda_run.specs.Alone.{IsFoundAlone};
+ghost use Rattle.hda_run.specs.Answered.{IsAnswered};
 ghost use Rattle.hda_run.specs.WholeRuns.{EndsWholeRun};
 ghost use Rattle.batch_runs.specs.Batches.{MayGive};
 ghost use Rattle.setup_runs.specs.Solving.{problem_of, problem_within, rules_of};
@@ -191,14 +192,10 @@ pub(crate) fn read_over<A: TellsBounds, S: Spread, G: Gate>(
     gate: &G,
     lists: &mut SearchLists,
 ) -> Result<A::Answer, OutOfMemory>
-    ensures parity { (result ≡ Ok A.parity)
-        ↔ (¬ SameClass question.now.start.now question.now.setup.now.goal) }
-    ensures run { SameClass question.now.start.now question.now.setup.now.goal
-        → IfOk result (IsFoundAlone A.gives S.owner_of
-        (problem_within limit question.now.setup.now question.now.start.now) spread.now) }
-    ensures answers { IfOk result
-        (A.answers (task_of_setup question.now.setup.now question.now.start.now)) }
-    ensures kept { IfOk result (λ answer. EndsWholeRun (A.end answer)) }
+    ensures { IsAnswered A.parity (IsFoundAlone A.gives S.owner_of
+        (problem_within limit question.now.setup.now question.now.start.now) spread.now)
+        A.answers A.end
+        (problem_within limit question.now.setup.now question.now.start.now) result }
 {
     let have_served = lists.len() > 0;
     let found = read_once::<A, S, G>(alloc, question, limit, spread, gate, lists);
@@ -222,14 +219,10 @@ fn read_once<A: TellsBounds, S: Spread, G: Gate>(
     gate: &G,
     lists: &mut SearchLists,
 ) -> Result<A::Answer, OutOfMemory>
-    ensures parity { (result ≡ Ok A.parity)
-        ↔ (¬ SameClass question.now.start.now question.now.setup.now.goal) }
-    ensures run { SameClass question.now.start.now question.now.setup.now.goal
-        → IfOk result (IsFoundAlone A.gives S.owner_of
-        (problem_within limit question.now.setup.now question.now.start.now) spread.now) }
-    ensures answers { IfOk result
-        (A.answers (task_of_setup question.now.setup.now question.now.start.now)) }
-    ensures kept { IfOk result (λ answer. EndsWholeRun (A.end answer)) }
+    ensures { IsAnswered A.parity (IsFoundAlone A.gives S.owner_of
+        (problem_within limit question.now.setup.now question.now.start.now) spread.now)
+        A.answers A.end
+        (problem_within limit question.now.setup.now question.now.start.now) result }
 {
     let job = job_within(question, limit);
     read_one_over::<A, S, G>(alloc, job, spread, gate, lists)

@@ -5,6 +5,7 @@ ghost use Rattle.board.specs.Classes.{SameClass};
 ghost use Rattle.outcomes.specs.Outcomes.{Answers};
 ghost use Rattle.outcomes.specs.declared.outcome.Outcome.TheVariants.{Unsolvable};
 ghost use Rattle.outcomes.specs.declared.outcome.Why.TheVariants.{Parity};
+ghost use Rattle.hda_run.specs.Answered.{IsAnswered};
 ghost use Rattle.hda_run.specs.Jobs.{task_in};
 ghost use Rattle.hda_run.specs.WholeRuns.{EndsWholeRun, HasWholeRun};
 ghost use Rattle.hda_run.specs.Worlds.{IsWorkerCount};
@@ -77,13 +78,8 @@ pub fn search_by_workers<A: Reading, R: Threads + Wait + Sync, S: Spread + Sync,
     search: Search<'_, S>,
     gate: &G,
 ) -> Result<A::Answer, OutOfMemory>
-    ensures parity { (result ≡ Ok A.parity)
-        ↔ (¬ SameClass search.entry.job.start search.entry.job.goal) }
-    ensures run { SameClass search.entry.job.start search.entry.job.goal
-        → IfOk result (IsFoundByWorkers A.gives S.owner_of search.entry.job
-        search.entry.owners.now search.entry.workers) }
-    ensures answers { IfOk result (A.answers (task_in search.entry.job)) }
-    ensures kept { IfOk result (λ answer. EndsWholeRun (A.end answer)) }
+    ensures { IsAnswered A.parity (IsFoundByWorkers A.gives S.owner_of search.entry.job
+        search.entry.owners.now search.entry.workers) A.answers A.end search.entry.job result }
 {
     A::keep_laws();
     // By this law no plan leads from a board to another class.

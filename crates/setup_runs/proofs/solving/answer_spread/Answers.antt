@@ -7,8 +7,8 @@ returns g c =
     let run = rw (c.job_for.ensures, c.worker_count.ensures.value) at c.search_by_workers.ensures in
     let setup = c.args.question.now.setup.now in
     record {
-      at_parity = run.parity;
+      parity = run.parity;
       run = λ together. found_so g.A.Reading.gives setup c.args.question.now.start.now g.S.Spread.owner_of c.owners_are_workers.ensures c.args.spread.now owner_by setup_owners setup.spread c.requires g.A.Reading.end c.search_by_workers.result (run.run together);
-      answered = run.answers;
+      answers = run.answers;
       kept = run.kept;
     }

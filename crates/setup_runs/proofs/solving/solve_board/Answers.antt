@@ -10,14 +10,14 @@ returns-in-Ok-clause-allowed g c =
     let start = c.args.question.now.start.now in
     let run = c.in-Ok.ensures in
     subst (λ (ending : Ending). MayAnswer setup start (Some ending)) (sym c.solved_since.ensures.ending)
-    (may_solve setup start _ (Ok c.in-Ok.found) run.at_parity.1 run.run run.answered run.kept)
+    (may_solve setup start _ (Ok c.in-Ok.found) run.parity.1 run.run run.answers run.kept)
 
 pub returns-in-Ok-clause-stats : goal.returns-in-Ok-clause-stats
 returns-in-Ok-clause-stats g c =
     let run = c.in-Ok.ensures in
-    workers_have_stats c.args.question.now.setup.now c.args.question.now.start.now c.in-Ok.found _ run.at_parity.1 run.run c.solved_since.ensures.ending c.solved_since.ensures.stats
+    workers_have_stats c.args.question.now.setup.now c.args.question.now.start.now c.in-Ok.found _ run.parity.1 run.run c.solved_since.ensures.ending c.solved_since.ensures.stats
 
 pub returns-in-Err-clause-allowed : goal.returns-in-Err-clause-allowed
 returns-in-Err-clause-allowed g c =
     let run = c.in-Err.ensures in
-    may_solve c.args.question.now.setup.now c.args.question.now.start.now _ (Err c.in-Err.refused) run.at_parity.1 run.run run.answered run.kept
+    may_solve c.args.question.now.setup.now c.args.question.now.start.now _ (Err c.in-Err.refused) run.parity.1 run.run run.answers run.kept
