@@ -26,7 +26,8 @@ use Rattle.world_model.specs.Outcomes.{IsGiven}
 use Rattle.outcomes.specs.Endings.{without_rows}
 use Rattle.batch_runs.specs.Setups.{SetupModel, owner_by, task_of_setup}
 use Rattle.setup_runs.specs.Ahead.{LacksMemory}
-use Rattle.setup_runs.specs.Laws.{AnswersAreOfWorlds, CertifiedOutcomesAreOfWorlds, HardBoardsAreShared, HardBoardsAreBounded, EndedAloneIsWhole, MemoryIsLacked, StatsAreOfTheSetups, job_alone, BoundsAreNeverCut, LimitsAreTheSetups, LimitsAreNearlySpent, StatsAreOfWorlds, StatsAreWithinTheLimit, FiguresAreOfBoards}
+use Rattle.thread_runs.specs.Threads.{IsFoundByThreads}
+use Rattle.setup_runs.specs.Laws.{AnswersAreOfWorlds, AnswersAreReached, RulesAreTheSetups, CertifyingRulesAreTheSetups, CertifiedOutcomesAreOfWorlds, HardBoardsAreShared, HardBoardsAreBounded, EndedAloneIsWhole, MemoryIsLacked, StatsAreOfTheSetups, job_alone, BoundsAreNeverCut, LimitsAreTheSetups, LimitsAreNearlySpent, StatsAreOfWorlds, StatsAreWithinTheLimit, FiguresAreOfBoards}
 use Rattle.std.specs.FinMap as map
 use Rattle.std.specs.Prelude.{min, ◌^◌, ◌-◌, sum_by}
 use Rattle.board.specs.Classes.{SameClass}
@@ -58,6 +59,28 @@ found_of_world {X} gives end setup b answer = by_run
 pub answers_of_worlds : AnswersAreOfWorlds
 answers_of_worlds setup b ending same (answers, inl (together, run)) = found_of_world EndsIn (λ it. it) setup b ending run.0
 answers_of_worlds setup b ending same (answers, inr (other, is)) = absurd (other same)
+
+pub answers_reached : AnswersAreReached
+answers_reached setup b ending same (answers, inl (together, run)) = by_run run.0
+  where
+    -- one worker's steps lead to it within this limit
+    Reached : ℕ → Type 0
+    Reached limit = (via : Move) × (made : List (Step × Option Refusal)) × (w : WorldState) × (limit ≤ setup.limit) × IsRun (opening (record (job_alone setup b) { limit = limit }) via) made w × EndsIn w ending
+
+    alone : (limit : ℕ) → limit ≤ setup.limit → IsFoundAlone EndsIn owner_by (problem_within limit setup b) setup.spread ending → Reached limit
+    alone limit within (w, run, given) = (run.via, run.first ++ run.last, w, within, run.run, given)
+
+    by_run : IsFound EndsIn (λ it. it) setup b ending → IsFoundByThreads EndsIn owner_by (problem_of setup b) setup.spread setup.workers (Some ending) ⊎ ((limit : ℕ) × Reached limit)
+    by_run (inl (inl (several, by))) = inl by
+    by_run (inl (inr (run, left))) = inr (setup.limit, alone setup.limit (omega arith) run)
+    by_run (inr (limit, found)) = inr (limit, alone limit found.within found.run)
+answers_reached setup b ending same (answers, inr (other, is)) = absurd (other same)
+
+pub rules_of_setups : RulesAreTheSetups
+rules_of_setups setup b = (refl, refl, λ it. (λ a. a, λ a. a))
+
+pub certifying_rules : CertifyingRulesAreTheSetups
+certifying_rules setup b = (refl, refl, λ it. (λ a. a, λ a. a))
 
 pub certified_of_worlds : CertifiedOutcomesAreOfWorlds
 certified_of_worlds setup b given same (answers, inl (together, run)) = found_of_world IsGiven without_rows setup b given run.0
@@ -93,8 +116,8 @@ hard_shared setup start found several (inr (limit, by)) hard =
 pub hard_bounded : HardBoardsAreBounded
 hard_bounded setup start hard = by_run hard.run
   where
-    by_run : IsFoundAlone EndsWithFigures owner_by (problem_within 2000000 setup start) setup.spread hard.found → (2000000 < setup.limit) × (w : WorldState) × (ending : Ending) × (w.task ≡ task_of_setup setup start) × EndsIn w ending × (¬ IsNoBound ending) × (¬ LacksMemory ending) × (expansion_count w ≤ 2000000)
-    by_run (w, run, gives) = (hard.more, w, hard.found.ending, task_alone 2000000 setup start w run, gives.0, hard.bound, hard.whole, run.within_limit)
+    by_run : IsFoundAlone EndsWithFigures owner_by (problem_within 2000000 setup start) setup.spread hard.found → (2000000 < setup.limit) × (w : WorldState) × (ending : Ending) × (w.task ≡ task_of_setup setup start) × EndsIn w ending × (¬ IsNoBound ending) × (¬ LacksMemory ending) × (expansion_count w ≤ 2000000) × ((bound : ℕ) (best : Option (ℕ × Vec Move Global)) → ending ≡ Bounded bound best Limit → expansion_count w ≡ 2000000)
+    by_run (w, run, gives) = (hard.more, w, hard.found.ending, task_alone 2000000 setup start w run, gives.0, hard.bound, hard.whole, run.within_limit, λ bound best is. run.spent ((causes_stop w bound best Limit (ends_bounded w bound best Limit (subst (EndsIn w) is gives.0))).0 refl))
 
 pub never_cut : BoundsAreNeverCut
 never_cut setup b bound best cause (answers, inl (same, run)) = run.1

@@ -1,5 +1,5 @@
 -- The laws of the definitions. Each is the contract of a function that does nothing.
-use Rattle.std.specs.Prelude.{ℕ, ◌≡◌, ◌≢◌, ◌⊎◌, ◌<◌, ◌≤◌, ◌+◌, ◌-◌, ◌*◌, ◌^◌, min, sum_by, List, Option, None, Some, Vec}
+use Rattle.std.specs.Prelude.{ℕ, ◌≡◌, ◌≢◌, ◌⊎◌, ◌↔◌, ◌<◌, ◌≤◌, ◌+◌, ◌-◌, ◌*◌, ◌^◌, min, sum_by, List, Option, None, Some, Vec}
 use Rattle.std.specs.FinMap as map
 use Rattle.std.specs.declared.alloc.Global.{Global}
 use Rattle.board.specs.declared.moves.Move.{Move}
@@ -17,6 +17,7 @@ use Rattle.outcomes.specs.Endings.{without_rows}
 use Rattle.outcomes.specs.Outcomes.{StandsAlone}
 use Rattle.outcomes.specs.declared.outcome.Why.TheVariants.{Parity}
 use Rattle.thread_runs.specs.Solved.{IsFoundByWorkers}
+use Rattle.thread_runs.specs.Threads.{IsFoundByThreads}
 use Rattle.world_ends.specs.Endings.{EndsIn}
 use Rattle.world_ends.specs.Readings.{EndsWithFigures}
 use Rattle.world_ends.specs.declared.reading.EndingWithFigures.{EndingWithFigures}
@@ -33,7 +34,7 @@ use Rattle.batch_lines.specs.Words.{IsEntry}
 use Rattle.batch_runs.specs.declared.stats.Stats.{Stats}
 use Rattle.batch_runs.specs.declared.stats.Solved.{Solved}
 use Rattle.setup_runs.specs.Ahead.{LacksMemory, IsEndedAlone, IsTooHard}
-use Rattle.setup_runs.specs.Solving.{IsFound, IsNoBound, MayAnswer, MayCertify, HasStats, AreFiguresOfLine, problem_of}
+use Rattle.setup_runs.specs.Solving.{IsFound, IsNoBound, MayAnswer, MayCertify, HasStats, AreFiguresOfLine, problem_of, rules_of, certifying_rules_of}
 
 -- a board of the other class is never refused for memory
 abbrev pub ParityWantsNoMemory : Type 0
@@ -79,6 +80,31 @@ AnswersAreOfWorlds =
     → SameClass b setup.goal
     → MayAnswer setup b (Some ending)
     → (w : WorldState) × (w.task ≡ task_of_setup setup b) × EndsIn w ending × (expansion_count w ≤ setup.limit)
+
+-- Such an answer is that of all the setup's workers, in threads, or one worker's steps lead to it from the opening world, within a limit
+-- that is at most the setup's.
+abbrev pub AnswersAreReached : Type 0
+AnswersAreReached =
+    (setup : SetupModel) (b : BoardModel) (ending : Ending)
+    → SameClass b setup.goal
+    → MayAnswer setup b (Some ending)
+    → IsFoundByThreads EndsIn owner_by (problem_of setup b) setup.spread setup.workers (Some ending)
+    ⊎ ((limit : ℕ) × (via : Move) × (made : List (Step × Option Refusal)) × (w : WorldState) × (limit ≤ setup.limit)
+    × IsRun (opening (record (job_alone setup b) { limit = limit }) via) made w × EndsIn w ending)
+
+-- what reports may say of boards of the goal's shape is what the setup may answer to their tasks
+abbrev pub RulesAreTheSetups : Type 0
+RulesAreTheSetups =
+    (setup : SetupModel) (b : BoardModel)
+    → ((rules_of setup).grid ≡ setup.goal.grid) × ((rules_of setup).task b ≡ task_of_setup setup b)
+    × ((it : Option Ending) → (rules_of setup).allows b it ↔ MayAnswer setup b it)
+
+-- so it is where rows are asked for
+abbrev pub CertifyingRulesAreTheSetups : Type 0
+CertifyingRulesAreTheSetups =
+    (setup : SetupModel) (b : BoardModel)
+    → ((certifying_rules_of setup).grid ≡ setup.goal.grid) × ((certifying_rules_of setup).task b ≡ task_of_setup setup b)
+    × ((it : Option Outcome) → (certifying_rules_of setup).allows b it ↔ MayCertify setup b it)
 
 -- so is each outcome that may be certified
 abbrev pub CertifiedOutcomesAreOfWorlds : Type 0
@@ -162,10 +188,11 @@ EndedAloneIsWhole =
     → (solved.stats.expanded ≤ 2000000) × ((bound : ℕ) (best : Option (ℕ × Vec Move Global)) (want : Want) → solved.ending ≢ Bounded bound best (Memory want))
 
 -- A board that one worker leaves to all others has a bound after at most two million expansions, not because memory was refused, and the
--- setup allows more.
+-- setup allows more. A bound for the limit has just as many.
 abbrev pub HardBoardsAreBounded : Type 0
 HardBoardsAreBounded =
     (setup : SetupModel) (start : BoardModel)
     → IsTooHard setup start
     → (2000000 < setup.limit) × (w : WorldState) × (ending : Ending) × (w.task ≡ task_of_setup setup start) × EndsIn w ending
     × (¬ IsNoBound ending) × (¬ LacksMemory ending) × (expansion_count w ≤ 2000000)
+    × ((bound : ℕ) (best : Option (ℕ × Vec Move Global)) → ending ≡ Bounded bound best Limit → expansion_count w ≡ 2000000)

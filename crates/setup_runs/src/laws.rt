@@ -9,12 +9,14 @@ ghost use Rattle.setup_runs.specs.Laws.{StatsAreOfWorlds, StatsAreOfTheSetups};
 ghost use Rattle.setup_runs.specs.Laws.{StatsAreWithinTheLimit, FiguresAreOfBoards};
 ghost use Rattle.setup_runs.specs.Laws.{MemoryIsLacked, EndedAloneIsWhole};
 ghost use Rattle.setup_runs.specs.Laws.{AnswersAreOfWorlds, CertifiedOutcomesAreOfWorlds};
+ghost use Rattle.setup_runs.specs.Laws.{AnswersAreReached, RulesAreTheSetups};
+ghost use Rattle.setup_runs.specs.Laws.{CertifyingRulesAreTheSetups};
 ghost use Rattle.setup_runs.specs.Laws.{HardBoardsAreShared, HardBoardsAreBounded};
 ghost use Rattle.setup_runs.specs.Solving.{HasStats, rules_of};
 ghost use Rattle.batch_runs.specs.Laws.{FiguresBelongToReports};
 ghost use Rattle.batch_runs.specs.Setups.{SetupModel};
 
-use crate::solving::ENOUGH_EXPANDED;
+use crate::solving::{EASY_EXPANSIONS, ENOUGH_EXPANDED};
 use crate::watching::Watch;
 
 /// A board of the other class is never refused for memory.
@@ -58,9 +60,11 @@ pub fn stats_are_within_the_limit()
     ensures { StatsAreWithinTheLimit }
 {}
 
-/// One of several workers expands at most two million for a board before all share it.
+/// One of several workers expands at most two million for a board before all share it, and 16,384
+/// where the setup allows more.
 pub fn two_million_are_enough()
-    ensures { ENOUGH_EXPANDED ≡ 2000000 }
+    ensures enough { ENOUGH_EXPANDED ≡ 2000000 }
+    ensures easy { EASY_EXPANSIONS ≡ 16384 }
 {}
 
 /// A bound for which memory was refused lacks it, whoever says so, and no other bound does. What
@@ -72,10 +76,18 @@ pub fn memory_is_lacked()
 {}
 
 /// Each answer of a board of the goal's class is that of a world of its task, within the limit.
-#[tactic(auto, using(crate::proofs::LawLemmas::answers_of_worlds, crate::proofs::LawLemmas::certified_of_worlds))]
+#[tactic(auto, using(crate::proofs::LawLemmas::answers_of_worlds, crate::proofs::LawLemmas::answers_reached, crate::proofs::LawLemmas::certified_of_worlds))]
 pub fn answers_are_of_worlds()
     ensures answered { AnswersAreOfWorlds }
+    ensures reached { AnswersAreReached }
     ensures certified { CertifiedOutcomesAreOfWorlds }
+{}
+
+/// What reports may say is what the setup may answer, with rows or without.
+#[tactic(auto, using(crate::proofs::LawLemmas::rules_of_setups, crate::proofs::LawLemmas::certifying_rules))]
+pub fn rules_are_the_setups()
+    ensures answered { RulesAreTheSetups }
+    ensures certified { CertifyingRulesAreTheSetups }
 {}
 
 /// Of several workers all share a board that two million expansions of one don't solve.

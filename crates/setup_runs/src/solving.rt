@@ -1,6 +1,6 @@
 //! The solver of a setup's boards.
 
-ghost use Rattle.std.specs.Prelude.{◌≡◌, ◌↔◌, ◌-◌, ◌^◌, ◌<◌, ◌≤◌, min, IfOk, IfSome, IsFalse, IsTrue, Ok};
+ghost use Rattle.std.specs.Prelude.{◌≡◌, ◌↔◌, ◌-◌, ◌^◌, ◌<◌, ◌≤◌, min, IfOk, IfErr, IfSome, IsFalse, IsTrue, Ok};
 ghost use Rattle.board.specs.Boards.{BoardModel};
 ghost use Rattle.board.specs.Classes.{SameClass};
 ghost use Rattle.batch_runs.specs.Setups.{owner_by, task_of_setup};
@@ -31,11 +31,12 @@ use world_ends::{EndingWithFigures, Reading, WithFigures, WithRows};
 
 // The most boards that one worker expands before several share the search, where the setup's limit
 // is above `ENOUGH_EXPANDED`. Several expand up to a thousand times more for an easy board.
-const EASY_EXPANSIONS: u64 = 16_384;
+pub(crate) const EASY_EXPANSIONS: u64 = 16_384;
 
 /// Where several boards are solved side by side, a thread leaves a board to all workers after this
-/// many expansions. After as many for all its boards it takes no other one. So it expands less than
-/// twice as many before the next reports, however many lines follow.
+/// many expansions. After as many for all its boards it takes no other one. So it counts less than
+/// twice as many before the next reports, however many lines follow. (Those of a search that memory
+/// ended over kept lists, and that began anew, count once.)
 pub(crate) const ENOUGH_EXPANDED: u64 = 2_000_000;
 
 /// A reading that tells bounds from other answers.
@@ -204,10 +205,21 @@ pub(crate) fn read_over<A: TellsBounds, S: Spread, G: Gate>(
     }
     *lists = SearchLists::new(alloc);
     let again = read_once::<A, S, G>(alloc, question, limit, spread, gate, lists);
-    if again.is_err() {
-        return found;
+    or_first::<A>(again, found)
+}
+
+// What was answered again, or the first answer where memory was refused before the first step.
+fn or_first<A: Reading>(
+    again: Result<A::Answer, OutOfMemory>,
+    first: Result<A::Answer, OutOfMemory>,
+) -> Result<A::Answer, OutOfMemory>
+    ensures again { IfOk again (λ answer. result ≡ Ok answer) }
+    ensures first { IfErr again (λ refused. result ≡ first) }
+{
+    match again {
+        Ok(answer) => Ok(answer),
+        Err(_) => first,
     }
-    again
 }
 
 // The same, whether or not memory is refused.
@@ -229,7 +241,10 @@ fn read_once<A: TellsBounds, S: Spread, G: Gate>(
 }
 
 // Whether a run was refused memory, before its first step or later.
-fn lacks_memory<A: TellsBounds>(found: &Result<A::Answer, OutOfMemory>) -> bool {
+fn lacks_memory<A: TellsBounds>(found: &Result<A::Answer, OutOfMemory>) -> bool
+    ensures later { IfOk found.now (λ answer. IsTrue result ↔ LacksMemory (A.end answer)) }
+    ensures before { IfErr found.now (λ refused. IsTrue result) }
+{
     match found {
         Ok(answer) => A::lacks_memory(answer),
         Err(_) => true,
