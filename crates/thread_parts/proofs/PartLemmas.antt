@@ -1,9 +1,10 @@
 -- What a part keeps: from its opening on, and by each step.
 use Rattle.std.proofs.Common.{◌≡◌, ◌⊎◌, ℕ, zero, suc, ◌<◌, List, [], ◌∷◌, ◌++◌, length, map, get_or, set, Option, Some, sym, ap, ◌∙◌, inl, inr, arith, ◌≢◌, ◌+◌, ◌^◌, replicate, refl, subst, ◌≤◌, None, false}
-use Rattle.std.specs.Prelude.{slice_get, slice_index_or, unwrap_or, OnOk, OnErr, Result, Ok, Err, ⊤, if◌then◌else◌}
+use Rattle.std.specs.Prelude.{slice_get, slice_index_or, unwrap_or, OnOk, OnErr, Result, Ok, Err, if◌then◌else◌}
 use Rattle.std.proofs.lemmas.List.{map-set, length-replicate, length-map}
 use Rattle.std.specs.Ordering.{nat_cmp}
 use Rattle.std.proofs.lemmas.Bool.Decides.{eqb_tells}
+use Rattle.std.proofs.lemmas.Bool.{cases_lt}
 use Rattle.board.specs.Boards.{BoardModel}
 use Rattle.board.specs.declared.moves.Move.{Move}
 use Rattle.search_keys.specs.SearchKeys.{search_key}
@@ -34,7 +35,7 @@ use Rattle.worker_core.specs.Roles.{IsGuided, guide_of}
 use Rattle.worker_core.specs.Serving.{Serves, StaysGuided}
 use Rattle.worker_core.specs.Workers.{state_of, at_lane, with_book}
 use Rattle.worker_core.specs.Settling.{SettleOrDrop}
-use Rattle.thread_parts.specs.Rings.{SenderModel, ReceiverModel, TakesIn, GivesOut, Looks, sent_lanes, received_lanes, left_lanes}
+use Rattle.thread_parts.specs.Rings.{Ring, SenderModel, ReceiverModel, TakesIn, GivesOut, Looks, MayBeFull, room_of, out_rings, sent_lanes, received_lanes, left_lanes}
 use Rattle.hda_run.specs.Jobs.{JobModel, context_in, task_in}
 use Rattle.thread_parts.specs.declared.part.Part.{Part}
 use Rattle.thread_parts.specs.Parts.{ChangesItsWorker, HaveSameLanes, face_of, IsSoundPart, IsFaceKept, part_state, role_of_part, terms_for}
@@ -43,7 +44,7 @@ use Rattle.thread_parts.specs.Parts.{fresh_allowance, begun_with}
 use Rattle.std.specs.Vec.{with_item}
 use Rattle.std.proofs.Math.Seq.{map-set_same}
 use Rattle.std.proofs.lemmas.Option.{get_or_from_slice_get}
-use Rattle.world_model.specs.declared.steps.Refusal.TheVariants.{RingEmpty}
+use Rattle.world_model.specs.declared.steps.Refusal.TheVariants.{RingFull, RingEmpty}
 use Rattle.world_model.specs.WorkerSteps.{SendStep, DeliverStep}
 use Rattle.worker_core.specs.Lanes.{HasSent, HasReceived, IsAtSender, IsAtReceiver}
 use Rattle.std.specs.FinMap as map
@@ -333,23 +334,54 @@ not_longer lane packet is = let n : length lane ≡ length (lane ++ packet ∷ [
 abbrev pub full_lane : Lane
 full_lane = replicate LANE_LIMIT []
 
+-- an end of a ring that may be full, among the ends of a part
+pub filled_at : (outs : List SenderModel) (to : ℕ) (end : SenderModel) → to < length outs → end ≡ get_or outs to end → room_of end.ring ≤ length end.sent → MayBeFull (out_rings outs) (sent_lanes outs) to
+filled_at outs to end there here room =
+    let sent = get_or_from_slice_get (sent_lanes outs) to end.sent [] (seen_at (λ (e : SenderModel). e.sent) outs to end there here) in
+    (end.ring, seen_at (λ (e : SenderModel). e.ring) outs to end there here, subst (λ (lane : Lane). room_of end.ring ≤ length lane) (sym sent) room)
+
 -- an end that has not changed may be that of a full lane
-pub at_full : (end end' : SenderModel) → end' ≡ end → IsAtSender (λ packet. TakesIn end packet end') ⊤ (end' ≡ end) full_lane full_lane
+pub at_full : (end end' : SenderModel) → end' ≡ end → IsAtSender (λ packet. TakesIn end packet end') (room_of end.ring ≤ length end.sent) (end' ≡ end) full_lane full_lane
 at_full end end' same = record {
   taken = λ packet took. absurd (not_longer end.sent packet (ap (λ (e : SenderModel). e.sent) (sym same ∙ took)));
   full = λ _. length-replicate {A = Packet} LANE_LIMIT [];
   kept = λ _. refl;
 }
 
-refuses_to_send : (to : ℕ) (part part' : PartState) (refusal : Refusal) → part' ≡ part → SendStep to (turn (at_lane part.worker full_lane) (Some refusal) (at_lane part'.worker full_lane)) → SendByRing to (turn part (Some refusal) part')
-refuses_to_send to part part' refusal same (inl out) = inl (out.0, (out.1.0, same))
-refuses_to_send to part part' refusal same (inr (some, inl out)) = inr (some, inl (out.0, (out.1.0, same)))
-refuses_to_send to part part' refusal same (inr (some, inr (funds, inl out))) = inr (some, inr (funds, inl (out.1.0, same)))
-refuses_to_send to part part' refusal same (inr (some, inr (funds, inr (room, is)))) = let wrong = is.0 in absurd (cc)
+-- an end that has not changed, and by which fewer packets went than its ring has room for, may be that of an empty lane
+at_free : (end end' : SenderModel) → length end.sent < room_of end.ring → end' ≡ end → IsAtSender (λ packet. TakesIn end packet end') (room_of end.ring ≤ length end.sent) (end' ≡ end) [] []
+at_free end end' few same = record {
+  taken = λ packet took. absurd (not_longer end.sent packet (ap (λ (e : SenderModel). e.sent) (sym same ∙ took)));
+  full = λ many. absurd (omega (arith, few, many));
+  kept = λ _. refl;
+}
 
-pub send_by_ring : {T : Type 0} (to : ℕ) (part part' : PartState) (answer : Result T Refusal) → OnOk answer (Sends to part part') → OnErr answer ((part' ≡ part) × SendStep to (turn (at_lane part.worker full_lane) (refusal_in answer) (at_lane part'.worker full_lane))) → SendByRing to (turn part (refusal_in answer) part')
-send_by_ring to part part' (Ok x) sent refused = inr (sent.0, inr ((λ small. let funds = sent.1 in omega (arith, funds, small)), inr (refl, sent)))
-send_by_ring to part part' (Err refusal) sent refused = refuses_to_send to part part' refusal refused.0 refused.1
+-- it is no full ring that refuses a packet for an empty lane
+not_full : (to : ℕ) (worker worker' : WorkerState) → ¬ SendStep to (turn (at_lane worker []) (Some RingFull) (at_lane worker' []))
+not_full to worker worker' (inl out) = let wrong = out.1.0 in absurd (cc)
+not_full to worker worker' (inr (some, inl out)) = let wrong = out.1.0 in absurd (cc)
+not_full to worker worker' (inr (some, inr (funds, inl out))) = let wrong = out.0 in absurd (cc)
+not_full to worker worker' (inr (some, inr (funds, inr (room, is)))) = let wrong = is.0 in absurd (cc)
+
+-- so as many packets were sent as the ring has room for
+pub ring_filled : {T : Type 0} (answer : Result T Refusal) (to : ℕ) (end end' : SenderModel) (worker worker' : WorkerState) → OnErr answer ((end' ≡ end) × (worker' ≡ worker)) → ((before after : Lane) → IsAtSender (λ packet. TakesIn end packet end') (room_of end.ring ≤ length end.sent) (end' ≡ end) before after → SendStep to (turn (at_lane worker before) (refusal_in answer) (at_lane worker' after))) → answer ≡ Err RingFull → room_of end.ring ≤ length end.sent
+ring_filled (Ok x) to end end' worker worker' same step is = absurd (cc is)
+ring_filled (Err refusal) to end end' worker worker' same step is =
+    let full : refusal ≡ RingFull = cc in
+    elim (cases_lt (length end.sent) (room_of end.ring)) [
+      | inl few ↦ absurd (not_full to worker worker' (subst (λ (r : Refusal). SendStep to (turn (at_lane worker []) (Some r) (at_lane worker' []))) full (step [] [] (at_free end end' few same.0))))
+      | inr many ↦ many
+    ]
+
+refuses_to_send : (rings : List Ring) (to : ℕ) (part part' : PartState) (refusal : Refusal) → (refusal ≡ RingFull → MayBeFull rings part.sent to) → part' ≡ part → SendStep to (turn (at_lane part.worker full_lane) (Some refusal) (at_lane part'.worker full_lane)) → SendByRing rings to (turn part (Some refusal) part')
+refuses_to_send rings to part part' refusal full same (inl out) = inl (out.0, (out.1.0, same))
+refuses_to_send rings to part part' refusal full same (inr (some, inl out)) = inr (some, inl (out.0, (out.1.0, same)))
+refuses_to_send rings to part part' refusal full same (inr (some, inr (funds, inl out))) = let is = out.1.0 in inr (some, inr (funds, inl (full cc, (is, same))))
+refuses_to_send rings to part part' refusal full same (inr (some, inr (funds, inr (room, is)))) = let wrong = is.0 in absurd (cc)
+
+pub send_by_ring : {T : Type 0} (rings : List Ring) (to : ℕ) (part part' : PartState) (answer : Result T Refusal) → (answer ≡ Err RingFull → MayBeFull rings part.sent to) → OnOk answer (Sends to part part') → OnErr answer ((part' ≡ part) × SendStep to (turn (at_lane part.worker full_lane) (refusal_in answer) (at_lane part'.worker full_lane))) → SendByRing rings to (turn part (refusal_in answer) part')
+send_by_ring rings to part part' (Ok x) full sent refused = inr (sent.0, inr ((λ small. let funds = sent.1 in omega (arith, funds, small)), inr (refl, sent)))
+send_by_ring rings to part part' (Err refusal) full sent refused = refuses_to_send rings to part part' refusal (λ is. full (ap Err is)) refused.0 refused.1
 
 -- ---- a packet comes
 
@@ -361,15 +393,15 @@ at_empty end end' same = record {
   kept = λ _. refl;
 }
 
-refuses_to_deliver : (from : ℕ) (part part' : PartState) (refusal : Refusal) → part' ≡ part → DeliverStep (turn (at_lane part.worker []) (Some refusal) (at_lane part'.worker [])) → DeliverByRing from (turn part (Some refusal) part')
-refuses_to_deliver from part part' refusal same (inl out) = inl (out.0, (out.1.0, same))
-refuses_to_deliver from part part' refusal same (inr (none, inl out)) = inr (none, inl (out.0, (out.1.0, same)))
-refuses_to_deliver from part part' refusal same (inr (none, inr (room, inl out))) = inr (none, inr (room, inl (out.1.0, same)))
-refuses_to_deliver from part part' refusal same (inr (none, inr (room, inr (some, is)))) = absurd (some refl)
+refuses_to_deliver : (left : List Lane) (from : ℕ) (part part' : PartState) (refusal : Refusal) → (refusal ≡ RingEmpty → slice_index_or left from [] ≡ []) → part' ≡ part → DeliverStep (turn (at_lane part.worker []) (Some refusal) (at_lane part'.worker [])) → DeliverByRing left from (turn part (Some refusal) part')
+refuses_to_deliver left from part part' refusal empty same (inl out) = inl (out.0, (out.1.0, same))
+refuses_to_deliver left from part part' refusal empty same (inr (none, inl out)) = inr (none, inl (out.0, (out.1.0, same)))
+refuses_to_deliver left from part part' refusal empty same (inr (none, inr (room, inl out))) = let is = out.1.0 in inr (none, inr (room, inl (empty cc, (is, same))))
+refuses_to_deliver left from part part' refusal empty same (inr (none, inr (room, inr (some, is)))) = absurd (some refl)
 
-pub deliver_by_ring : {T : Type 0} (from : ℕ) (part part' : PartState) (answer : Result T Refusal) → OnOk answer ((part.worker.purse + 1 ≢ 2 ^ 64) × Receives from part part') → OnErr answer ((part' ≡ part) × DeliverStep (turn (at_lane part.worker []) (refusal_in answer) (at_lane part'.worker []))) → DeliverByRing from (turn part (refusal_in answer) part')
-deliver_by_ring from part part' (Ok x) received refused = inr ((λ held. held received.1.1), inr (received.0, inr (refl, received.1)))
-deliver_by_ring from part part' (Err refusal) received refused = refuses_to_deliver from part part' refusal refused.0 refused.1
+pub deliver_by_ring : {T : Type 0} (left : List Lane) (from : ℕ) (part part' : PartState) (answer : Result T Refusal) → (answer ≡ Err RingEmpty → slice_index_or left from [] ≡ []) → OnOk answer ((part.worker.purse + 1 ≢ 2 ^ 64) × Receives from part part') → OnErr answer ((part' ≡ part) × DeliverStep (turn (at_lane part.worker []) (refusal_in answer) (at_lane part'.worker []))) → DeliverByRing left from (turn part (refusal_in answer) part')
+deliver_by_ring left from part part' (Ok x) empty received refused = inr ((λ held. held received.1.1), inr (received.0, inr (refl, received.1)))
+deliver_by_ring left from part part' (Err refusal) empty received refused = refuses_to_deliver left from part part' refusal (λ is. empty (ap Err is)) refused.0 refused.1
 
 abbrev pub lane_of_one : Lane
 lane_of_one = [] ∷ []

@@ -1,5 +1,5 @@
 -- The two ends of a ring, and those of all rings of a run.
-use Rattle.std.specs.Prelude.{◌≡◌, ◌≢◌, ℕ, ◌<◌, List, [], ◌∷◌, ◌++◌, Vec, map, length, replicate, Some, slice_get, slice_index_or}
+use Rattle.std.specs.Prelude.{◌≡◌, ◌≢◌, ℕ, ◌<◌, ◌≤◌, List, [], ◌∷◌, ◌++◌, Vec, map, length, replicate, Some, slice_get, slice_index_or}
 use denote.RawPtr.{Ptr}
 use Rattle.std.specs.declared.alloc.Global.{Global}
 use Rattle.rtrb.specs.Shared.{Names}
@@ -113,6 +113,10 @@ pub record AreNew (n : ℕ) (outs : List (Vec SenderModel Global)) (ins : List (
 -- a new ring from a worker to itself has room for one packet, and each other one for as many as a lane
 abbrev pub NewRingsHaveRoom : Type 0
 NewRingsHaveRoom = (n : ℕ) (outs : List (Vec SenderModel Global)) (ins : List (Vec ReceiverModel Global)) (i j : ℕ) (ring : Ring) → AreNew n outs ins → slice_get (slice_index_or (rings_of_outs outs) i []) j ≡ Some ring → (i ≡ j → room_of ring ≡ 1) × (i ≢ j → room_of ring ≡ LANE_LIMIT)
+
+-- as many packets were sent to worker `to` as the ring to it has room for: before that, the ring has a place
+abbrev pub MayBeFull : List Ring → List Lane → ℕ → Type 0
+MayBeFull rings sent to = (ring : Ring) × (slice_get rings to ≡ Some ring) × (room_of ring ≤ length (slice_index_or sent to []))
 
 -- the ring at `to` of the one list is that at `from` of the other
 pub record IsSameRing (outs : List Ring) (to : ℕ) (ins : List Ring) (from : ℕ) : Type 0 where

@@ -1,6 +1,6 @@
 //! The two ends of a ring, by which packets go from one thread to another.
 
-ghost use Rattle.std.specs.Prelude.{◌≡◌, ◌<◌, ◌≤◌, ◌∷◌, ◌++◌, [], ⊤, length};
+ghost use Rattle.std.specs.Prelude.{◌≡◌, ◌<◌, ◌≤◌, ◌∷◌, ◌++◌, [], length};
 ghost use Rattle.std.specs.Prelude.{IfErr, IfOk, IfSome, IfNone, OnOk, OnErr};
 ghost use Rattle.world_model.specs.declared.limits.TheConstants.{LANE_LIMIT};
 ghost use Rattle.thread_parts.specs.Rings.{TakesIn, GivesOut, Looks, room_of};
@@ -71,12 +71,12 @@ pub(crate) fn open_ring<C: Counting>(
 }
 
 impl<C: Counting> LaneOut<Packet<C>> for Sender<C> {
-    ghost use Rattle.std.specs.Prelude.{◌≡◌, ⊤, refl};
-    ghost use Rattle.thread_parts.specs.Rings.{TakesIn};
+    ghost use Rattle.std.specs.Prelude.{◌≡◌, ◌≤◌, length, refl};
+    ghost use Rattle.thread_parts.specs.Rings.{TakesIn, room_of};
 
     ghost takes = { λ before packet after. TakesIn before packet after };
 
-    ghost may_be_full = { λ lane. ⊤ };
+    ghost may_be_full = { λ lane. room_of lane.ring ≤ length lane.sent };
 
     ghost is_same = { λ before after. after ≡ before };
 

@@ -1,7 +1,7 @@
 //! The two steps on rings.
 
 ghost use Rattle.std.specs.Prelude.{◌≡◌, ◌<◌, [], IsErrOf, slice_index_or};
-ghost use Rattle.thread_parts.specs.Rings.{left_lanes};
+ghost use Rattle.thread_parts.specs.Rings.{out_rings, sent_lanes, left_lanes, MayBeFull};
 ghost use Rattle.world_model.specs.declared.steps.Refusal.{Refusal};
 ghost use Rattle.world_model.specs.Turns.{turn, refusal_in};
 ghost use Rattle.thread_parts.specs.Parts.{part_state, IsSoundPart, KeepsPart};
@@ -15,12 +15,15 @@ use world_model::thread_laws::steps_are_kept;
 
 impl<'a, S: Spread, C: Tokens> Part<'a, S, C> {
     /// Sends what is unsent for worker `to` as one packet, with 1 of the purse. Refusals: S13
-    /// nothing is unsent for it, S6 the purse is below 2, S4 the ring is full.
+    /// nothing is unsent for it, S6 the purse is below 2, S4 the ring is full: as many
+    /// packets were sent by it as it has room for.
     pub fn send(&mut self, to: usize) -> Result<(), Refusal>
         requires holds { IsSoundPart S.owner_of C.workers self.old }
         requires there { to < C.workers }
-        ensures step { SendByRing to (turn (part_state self.old) (refusal_in result)
-            (part_state self.new)) }
+        ensures step { SendByRing (out_rings self.old.outs.items) to (turn (part_state self.old)
+            (refusal_in result) (part_state self.new)) }
+        ensures full { IsErrOf result Refusal.RingFull → MayBeFull (out_rings self.old.outs.items)
+            (sent_lanes self.old.outs.items) to }
         ensures part { KeepsPart S.owner_of C.workers self.old self.new }
     {
         steps_are_kept();
@@ -34,8 +37,8 @@ impl<'a, S: Spread, C: Tokens> Part<'a, S, C> {
     pub fn deliver(&mut self, from: usize) -> Result<(), Refusal>
         requires holds { IsSoundPart S.owner_of C.workers self.old }
         requires there { from < C.workers }
-        ensures step { DeliverByRing from (turn (part_state self.old) (refusal_in result)
-            (part_state self.new)) }
+        ensures step { DeliverByRing (left_lanes self.old.ins.items) from (turn
+            (part_state self.old) (refusal_in result) (part_state self.new)) }
         ensures seen { IsErrOf result Refusal.RingEmpty
             → slice_index_or (left_lanes self.old.ins.items) from [] ≡ [] }
         ensures part { KeepsPart S.owner_of C.workers self.old self.new }

@@ -34,7 +34,9 @@ pub fn packets_go_and_come()
 {}
 
 /// A step by a ring is refused for the first of its causes that is there, by the refusal of that
-/// cause. Where there is none, the packet goes or comes, or the ring refuses it.
+/// cause. Where there is none, the packet goes or comes, or the ring refuses it. No ring is full
+/// before as many packets were sent by it as it has room for. None is empty where one that was seen
+/// in it is left.
 pub fn refusals_of_rings_are_due()
     ensures sent { SendRefusalsAreDue }
     ensures received { DeliverRefusalsAreDue }

@@ -4,7 +4,7 @@
 //!
 //! - `Sender` and `Receiver` are the ends of an `rtrb` ring, a `LaneOut` and a `LaneIn`. Contracts
 //!   see which ring it is and what passed. A sender takes as many packets as its ring has room for,
-//!   and a receiver gives those that it has seen. No contract says when a ring refuses one; nothing
+//!   and a receiver gives those that it has seen. After that a ring may refuse at any time; nothing
 //!   has changed then.
 //! - `open_rings` makes a ring for each ordered pair, and one of a single packet from each worker
 //!   to itself, so loops have no special case. No later call on rings takes memory.

@@ -1,6 +1,7 @@
 use Rattle.std.proofs.Common.{◌<◌, ◌≡◌, [], length, inl, inr, refl, sym, subst, ◌∙◌, arith}
 use Rattle.std.proofs.lemmas.Result.{on_ok_weaker, on_err_weaker}
 use Rattle.world_model.specs.ThreadParts.{Keeps}
+use Rattle.thread_parts.specs.Rings.{left_lanes}
 use Rattle.thread_parts.specs.Parts.{part_state, role_of_part}
 use Rattle.thread_parts.proofs.PartLemmas.{answered, receives, none_received, in_kept, with_in, left_at, at_empty, deliver_by_ring, none_seen, in_count, holds_after}
 use Rattle.worker_core.specs.Workers.{state_of}
@@ -16,7 +17,8 @@ returns-clause-step g c =
     let here = c.index_mut-lane.ensures.value in
     let count = in_count g.S.Spread.owner_of g.C.Tokens.workers old c.requires.holds in
     let there : from < length old.ins.items = omega (arith, count, c.requires.there) in
-    deliver_by_ring from (part_state old) (part_state (with_in old from worker end end' here)) c.deliver.result
+    deliver_by_ring (left_lanes old.ins.items) from (part_state old) (part_state (with_in old from worker end end' here)) c.deliver.result
+    (λ is. left_at old.ins.items from end there here ∙ none_seen c.deliver.result end end' (state_of old.worker) (state_of worker) c.deliver.ensures.refused c.deliver.ensures.step is)
     (on_ok_weaker c.deliver.result (λ has. (has.room, receives old from worker end end' here there has)) c.deliver.ensures.given)
     (on_err_weaker c.deliver.result (λ same. (none_received old from worker end end' here same.0 same.1, c.deliver.ensures.step [] [] (at_empty end end' same.0))) c.deliver.ensures.refused)
 
