@@ -1,3 +1,4 @@
+mod EarlyLemmas
 mod ReadLemmas
 mod StepLemmas
 mod WorkedLemmas

@@ -341,7 +341,7 @@ over_is false true is = absurd (cc)
 over_is false false is = absurd (cc)
 
 -- a line of a board isn't passed over
-named_here : (grid : ShapeModel) (line id : List ℕ) (board : BoardModel) → Names grid line id board → ¬ IsPassedOver line
+pub named_here : (grid : ShapeModel) (line id : List ℕ) (board : BoardModel) → Names grid line id board → ¬ IsPassedOver line
 named_here grid line id board names over = let both : PassedOver ≡ Within = sym over ∙ names.0 in absurd (cc)
 
 -- the questions, by whether the first line is passed over
@@ -377,7 +377,7 @@ asked_or other None = other
 asked_or other (Some asked) = asked
 
 -- the number and the line of the first question, and the lines behind it
-first_is : (lines passed later : List (List ℕ)) (line asked : List ℕ) (n : ℕ) → lines ≡ passed ++ line ∷ later → All IsPassedOver passed → ¬ IsPassedOver line → IsQuestion lines 0 n asked → (n ≡ length passed + 1) × (asked ≡ line) × (drop n lines ≡ later)
+pub first_is : (lines passed later : List (List ℕ)) (line asked : List ℕ) (n : ℕ) → lines ≡ passed ++ line ∷ later → All IsPassedOver passed → ¬ IsPassedOver line → IsQuestion lines 0 n asked → (n ≡ length passed + 1) × (asked ≡ line) × (drop n lines ≡ later)
 first_is lines passed later line asked n parts over here question =
     let found = first_question 1 passed later line over here in
     let same : Some (found.0, line) ≡ Some (n, asked) = sym (ap (λ (qs : List (ℕ × List ℕ)). slice_get qs 0) (ap (questions 1) parts ∙ found.2)) ∙ question in
@@ -413,7 +413,7 @@ pub plays_named : (jobs : Jobs) → PlaysNamedBoards jobs
 plays_named jobs = record { played = named_played jobs; answered = named_answered jobs }
 
 -- the lines of a known input, where the first that isn't passed over was found
-found_in : (source : Change SourceState) (input : List ℕ) (passed : List (List ℕ)) (line : List ℕ) → source.before.left ≡ Some input → FindsFirst source passed line → (later : List (List ℕ)) × (lines_of input ≡ passed ++ line ∷ later)
+pub found_in : (source : Change SourceState) (input : List ℕ) (passed : List (List ℕ)) (line : List ℕ) → source.before.left ≡ Some input → FindsFirst source passed line → (later : List (List ℕ)) × (lines_of input ≡ passed ++ line ∷ later)
 found_in source input passed line known found =
     let first : (more : List (List ℕ)) × (lines_of input ≡ (passed ++ line ∷ []) ++ more) = subst (λ (left : Option (List ℕ)). AreFirst left (passed ++ line ∷ [])) known (AreFirst-read source.before.left source.after.left (passed ++ line ∷ []) found.read) in
     (first.0, first.1 ∙ append_assoc passed (line ∷ []) first.0)
@@ -439,7 +439,7 @@ fault_of : (jobs : Jobs) (line code : List ℕ) → ((id : List ℕ) (board : Bo
 fault_of jobs line code none (inl fault) = fault
 fault_of jobs line code none (inr (id, board, named, lacks, is)) = absurd (none id board named)
 
-refused_by_fault : (jobs : Jobs) (source : Change SourceState) (input output : List ℕ) (n : ℕ) (line : List ℕ) → source.before.left ≡ Some input → IsQuestion (lines_of input) 0 n line → ((id : List ℕ) (board : BoardModel) → ¬ Names jobs.grid line id board) → RefusesFirst jobs source output → (code : List ℕ) × HasFault jobs.grid line code × (output ≡ report_text (refused_data code n))
+pub refused_by_fault : (jobs : Jobs) (source : Change SourceState) (input output : List ℕ) (n : ℕ) (line : List ℕ) → source.before.left ≡ Some input → IsQuestion (lines_of input) 0 n line → ((id : List ℕ) (board : BoardModel) → ¬ Names jobs.grid line id board) → RefusesFirst jobs source output → (code : List ℕ) × HasFault jobs.grid line code × (output ≡ report_text (refused_data code n))
 refused_by_fault jobs source input output n line known question none refuses =
     let is = refused_is jobs source input output n line known question refuses in
     (is.0, fault_of jobs line is.0 none is.1, is.2)
@@ -459,7 +459,7 @@ asked_none : (asked : ℕ × List ℕ) (rest : List (ℕ × List ℕ)) → asked
 asked_none asked rest is = absurd (cc)
 
 -- where a line isn't passed over, some line asks
-some_asked : (lines passed later : List (List ℕ)) (line : List ℕ) → lines ≡ passed ++ line ∷ later → All IsPassedOver passed → ¬ IsPassedOver line → questions 1 lines ≢ []
+pub some_asked : (lines passed later : List (List ℕ)) (line : List ℕ) → lines ≡ passed ++ line ∷ later → All IsPassedOver passed → ¬ IsPassedOver line → questions 1 lines ≢ []
 some_asked lines passed later line parts over here none =
     let found = first_question 1 passed later line over here in
     asked_none (found.0, line) found.1 (sym (ap (questions 1) parts ∙ found.2) ∙ none)
@@ -592,7 +592,7 @@ replies_to_all jobs all lines more n id name board replies w is asks_it play =
     let same = same_name jobs.grid play.line id name board play.board (subst (λ (line : List ℕ). Names jobs.grid line id board) here.1 asks_it.2) play.named in
     let behind : drop n lines ≡ play.later = ap (λ (k : ℕ). drop k lines) here.0 ∙ ap (λ (ls : List (List ℕ)). drop (length play.passed + 1) ls) play.parts ∙ drop-append-add play.passed (play.line ∷ play.later) 1 in
     let replied : IsReplied (from_to (opening (jobs.job play.board) play.via) w) (drop n lines) replies = subst (λ (later : List (List ℕ)). IsReplied (from_to (opening (jobs.job play.board) play.via) w) later replies) (sym behind) play.replied in
-    record { replies = replies; via = play.via; end = w; replied = subst (λ (b : BoardModel). IsReplied (from_to (opening (jobs.job b) play.via) w) (drop n lines) replies) same.1 replied; is = refl }
+    record { replies = replies; via = play.via; reached = w; replied = subst (λ (b : BoardModel). IsReplied (from_to (opening (jobs.job b) play.via) w) (drop n lines) replies) same.1 replied; is = refl }
 
 module _ (jobs : Jobs) (source : Change SourceState) (sink : Change SinkState) (input : List ℕ) (n : ℕ) (id : List ℕ) (board : BoardModel) (known : source.before.left ≡ Some input) (empty : sink.before.contents ≡ Some []) (asks_it : AsksFirst jobs (lines_of input) n id board) where
   -- what was put is what the sink holds, since it was empty
@@ -906,7 +906,9 @@ set_up setup = record {
   workers = beyond_refused setup;
   draws = owner_draws setup;
   grants = limit_grants setup;
-  asks = λ board via w is. (ap (λ (x : WorldState). x.task.start) is, ap (λ (x : WorldState). x.task.goal) is, ap (λ (x : WorldState). x.task.rule) is);
+  asks = λ board via w is. (ap (λ (x : WorldState). x.task.start) is, ap (λ (x : WorldState). x.task.goal) is, ap (λ (x : WorldState). x.task.rule) is, λ b. ap (λ (x : WorldState). x.task.sum b) is);
+  limits = λ board via w is. ap (λ (x : WorldState). x.book.limit) is;
+  shares = λ board via w is. (ap (λ (x : WorldState). length x.workers) is ∙ workers_are setup board via, λ b. ap (λ (x : WorldState). x.owner b) is);
   shape = refl;
   lacks = λ board refused. refused;
 }

@@ -1,5 +1,5 @@
 -- The words that lines are answered by.
-use Rattle.std.specs.Prelude.{ℕ, List, Option, None, Some, codes}
+use Rattle.std.specs.Prelude.{ℕ, ◌≡◌, ◌≢◌, List, Option, None, Some, codes}
 use Rattle.world_model.specs.declared.steps.Refusal.{Refusal}
 use Rattle.world_model.specs.declared.steps.Refusal.TheVariants.{NothingBelowLimit, NoAllowance, NoRoom, RingFull, RingEmpty, PurseTooSmall, StillHolding, Memory, NothingToAnnounce, NotIdle, Stopped, PurseEmpty, NothingThere, AllowanceLeft, NoSuchWorker, PurseFull}
 
@@ -30,3 +30,11 @@ no_step_code = codes "B4"
 abbrev pub answer_word : Option Refusal → List ℕ
 answer_word None = codes "ok"
 answer_word (Some refusal) = step_code refusal
+
+-- ---- a law: the contract of a function without effect
+
+-- No two refusals have the same code. None is the word for a step that was taken. None of these words is the answer to a line that says no step.
+pub record StepCodesDiffer : Type 0 where
+  pub codes_differ : (refusal other : Refusal) → step_code refusal ≡ step_code other → refusal ≡ other
+  pub taken_differs : (refusal : Refusal) → step_code refusal ≢ answer_word None
+  pub no_step_differs : (answer : Option Refusal) → answer_word answer ≢ no_step_code

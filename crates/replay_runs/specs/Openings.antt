@@ -1,7 +1,9 @@
 -- What the runs of a setup's boards rest on.
-use Rattle.std.specs.Prelude.{ℕ, ◌≡◌, ◌≤◌, ◌<◌, min, Option, None, Some}
+use Rattle.std.specs.Prelude.{ℕ, ◌≡◌, ◌≤◌, ◌<◌, min, length, Option, None, Some}
 use Rattle.board.specs.declared.moves.Move.{Move}
 use Rattle.board.specs.Boards.{BoardModel}
+use Rattle.lower_bound.specs.Bounds.{sum_of}
+use Rattle.lower_bound.specs.Tables.{parts_of}
 use Rattle.memory.specs.declared.OutOfMemory.{OutOfMemory}
 use Rattle.batch_runs.specs.Setups.{SetupModel, owner_by, task_of_setup}
 use Rattle.world_model.specs.declared.limits.TheConstants.{GREATEST_GRANT}
@@ -35,7 +37,8 @@ setup_jobs setup = jobs_by (owner_by setup.spread) setup
 
 -- In the world that a board of the setup opens with, a step of a worker that the setup doesn't have is refused. Only the board's owner draws
 -- credit there, by the setup's spread over its workers. What is granted there first is as much as the setup's limit leaves. Asked for are plans
--- from the board to the setup's goal, at its costs. Boards have the goal's shape, and none is refused unless memory was.
+-- from the board to the setup's goal, at its costs, and its tables guide the search. The book has the setup's limit. There are as many workers
+-- as the setup has, and its spread names the owner of each board. Boards have the goal's shape, and none is refused unless memory was.
 pub record OpensAsSetUp (setup : SetupModel) : Type 0 where
   pub workers :
       (board : BoardModel) (via : Move) (i : ℕ) (refusal : Option Refusal) (w : WorldState)
@@ -54,6 +57,15 @@ pub record OpensAsSetUp (setup : SetupModel) : Type 0 where
       (board : BoardModel) (via : Move) (w : WorldState)
       → w ≡ opening ((setup_jobs setup).job board) via
       → (w.task.start ≡ board) × (w.task.goal ≡ setup.goal) × (w.task.rule ≡ setup.rule)
+      × ((b : BoardModel) → w.task.sum b ≡ sum_of (parts_of setup.tables) b)
+  pub limits :
+      (board : BoardModel) (via : Move) (w : WorldState)
+      → w ≡ opening ((setup_jobs setup).job board) via
+      → w.book.limit ≡ setup.limit
+  pub shares :
+      (board : BoardModel) (via : Move) (w : WorldState)
+      → w ≡ opening ((setup_jobs setup).job board) via
+      → (length w.workers ≡ setup.workers) × ((b : BoardModel) → w.owner b ≡ owner_by setup.spread setup.workers b)
   pub shape : (setup_jobs setup).grid ≡ setup.goal.grid
   pub lacks : (board : BoardModel) → (setup_jobs setup).lacks board → OutOfMemory
 

@@ -21,6 +21,7 @@ use Rattle.world_model.specs.declared.steps.Step.{Step}
 use Rattle.world_model.specs.Steps.{Next}
 use Rattle.world_model.specs.Turns.{turn}
 use Rattle.world_model.specs.Openings.{Job, IsJob, opening}
+use Rattle.world_model.specs.Outcomes.{IsGiven}
 use Rattle.world_model.specs.Worlds.{WorldState}
 use Rattle.batch_runs.specs.Batches.{AreAll, AreFirst, LosesLine, IsReadable, HasFailed, KeepsFailure}
 use Rattle.batch_runs.specs.Headline.{IsTrueOfBoard}
@@ -270,8 +271,8 @@ EarlyReplaysBeginAnswers jobs =
 pub record RepliesToAllSteps (jobs : Jobs) (lines : List (List ℕ)) (n : ℕ) (board : BoardModel) (text : List ℕ) : Type 0 where
   pub replies : List Reply
   pub via : Move
-  pub end : WorldState
-  pub replied : IsReplied (from_to (opening (jobs.job board) via) end) (drop n lines) replies
+  pub reached : WorldState
+  pub replied : IsReplied (from_to (opening (jobs.job board) via) reached) (drop n lines) replies
   pub is : text ≡ replies_text replies
 
 -- the sink holds such replies to all of these lines
@@ -297,12 +298,90 @@ pub record EarlyReplaysAnswerAllRead (jobs : Jobs) : Type 0 where
       → Replays jobs source sink (Err (Memory report))
       → (jobs.lacks board × (sink.after.contents ≡ Some [])) ⊎ HoldsReplies jobs sink (lines_of input) n board
 
--- ---- laws of the replies to lines, whatever the board
+-- the line names no board
+abbrev pub NamesNone : Jobs → List ℕ → Type 0
+NamesNone jobs line = (id : List ℕ) (board : BoardModel) → ¬ Names jobs.grid line id board
+
+-- The input is known, its board line names no board, and the sink was empty. A replay that loses a line leaves nothing, and each line that was
+-- read whole is passed over. One whose sink fails leaves a beginning of the report of a fault of the board line. One that lacks memory for
+-- this report leaves nothing. Where there is no board line, nothing is left, and a replay ends early only where a line is lost.
+pub record EarlyReplaysOfNoBoard (jobs : Jobs) : Type 0 where
+  pub lost :
+      (source : Change SourceState) (sink : Change SinkState) (input : List ℕ) (n : ℕ) (line : List ℕ)
+      → source.before.left ≡ Some input
+      → sink.before.contents ≡ Some []
+      → IsQuestion (lines_of input) 0 n line
+      → NamesNone jobs line
+      → Replays jobs source sink (Err Read)
+      → (read : List (List ℕ)) × LosesLine source read × All IsPassedOver read × (sink.after.contents ≡ Some [])
+  pub failed :
+      (source : Change SourceState) (sink : Change SinkState) (input : List ℕ) (n : ℕ) (line : List ℕ)
+      → source.before.left ≡ Some input
+      → sink.before.contents ≡ Some []
+      → IsQuestion (lines_of input) 0 n line
+      → NamesNone jobs line
+      → Replays jobs source sink (Err Write)
+      → (code written unwritten : List ℕ) × HasFault jobs.grid line code × (sink.after.contents ≡ Some written)
+      × (written ++ unwritten ≡ report_text (refused_data code n))
+  pub lacking :
+      (source : Change SourceState) (sink : Change SinkState) (input : List ℕ) (n : ℕ) (line : List ℕ) (report : NoReport)
+      → source.before.left ≡ Some input
+      → sink.before.contents ≡ Some []
+      → IsQuestion (lines_of input) 0 n line
+      → NamesNone jobs line
+      → Replays jobs source sink (Err (Memory report))
+      → sink.after.contents ≡ Some []
+  pub silent :
+      (source : Change SourceState) (sink : Change SinkState) (fault : LinesFault) (input : List ℕ)
+      → source.before.left ≡ Some input
+      → sink.before.contents ≡ Some []
+      → questions 1 (lines_of input) ≡ []
+      → Replays jobs source sink (Err fault)
+      → (fault ≡ Read) × (sink.after.contents ≡ Some [])
 
 -- the line is to be read, and says this step
 pub record IsStepLine (line : List ℕ) (step : Step) : Type 0 where
   pub within : line_kind_of line ≡ Within
   pub says : TextSays (without_return line) step
+
+-- Replies follow a run of the board's job. Those to first lines are those to all of these lines. Among them, a line that says a step has what
+-- the step answers in the world that the lines before it reach. In what answers a board, the report behind them is that of an outcome which
+-- the last world gives. Without lines behind the board line, this is the world that the job opens with, and nothing else is written.
+pub record AnswersFollowRuns (jobs : Jobs) : Type 0 where
+  pub first :
+      (lines : List (List ℕ)) (n : ℕ) (board : BoardModel) (text : List ℕ)
+      → RepliesToFirstSteps jobs lines n board text
+      → (begun more : List (List ℕ)) × (drop n lines ≡ begun ++ more) × RepliesToAllSteps jobs begun 0 board text
+  pub replied :
+      (lines : List (List ℕ)) (n : ℕ) (board : BoardModel) (text : List ℕ) (before after : List (List ℕ)) (line : List ℕ) (step : Step)
+      → RepliesToAllSteps jobs lines n board text
+      → drop n lines ≡ before ++ line ∷ after
+      → IsStepLine line step
+      → (via : Move) × (first rest : List Reply) × (reached left end : WorldState) × (said : Step) × (refusal : Option Refusal)
+      × IsStepLine line said
+      × IsReplied (from_to (opening (jobs.job board) via) reached) before first
+      × Next said (turn reached refusal left)
+      × IsReplied (from_to left end) after rest
+      × (text ≡ replies_text first ++ ((answer_word refusal ++ 10 ∷ []) ++ replies_text rest))
+  pub answered :
+      (lines : List (List ℕ)) (n : ℕ) (id : List ℕ) (board : BoardModel) (output : List ℕ) (status : ℕ) (before after : List (List ℕ)) (line : List ℕ) (step : Step)
+      → AnswersNamedBoard jobs lines n id board output status
+      → drop n lines ≡ before ++ line ∷ after
+      → IsStepLine line step
+      → (via : Move) × (first rest : List Reply) × (reached left end : WorldState) × (said : Step) × (refusal : Option Refusal) × (outcome : Outcome)
+      × IsStepLine line said
+      × IsReplied (from_to (opening (jobs.job board) via) reached) before first
+      × Next said (turn reached refusal left)
+      × IsReplied (from_to left end) after rest
+      × IsGiven end outcome
+      × (output ≡ (replies_text first ++ ((answer_word refusal ++ 10 ∷ []) ++ replies_text rest)) ++ report_text (outcome_data id (without_rows outcome)))
+  pub alone :
+      (lines : List (List ℕ)) (n : ℕ) (id : List ℕ) (board : BoardModel) (output : List ℕ) (status : ℕ)
+      → AnswersNamedBoard jobs lines n id board output status
+      → drop n lines ≡ []
+      → (via : Move) × (outcome : Outcome) × IsGiven (opening (jobs.job board) via) outcome × (output ≡ report_text (outcome_data id (without_rows outcome)))
+
+-- ---- laws of the replies to lines, whatever the board
 
 -- Where a line among others says a step, what is written has this line's answer between those to the lines before it and behind it. It is the
 -- word of what the step answers in the world that the lines before it reach, and the lines behind it go on from the world that the step leaves.

@@ -7,7 +7,7 @@ ghost use Rattle.replay_runs.specs.Answers as answers;
 use world_model::Refusal;
 
 /// The answer to a line that says no step.
-pub const NO_STEP: &str = "B4";
+pub(crate) const NO_STEP: &str = "B4";
 
 /// The answer to a step: `ok`, or the code of its refusal.
 pub fn answer_word(answer: Result<(), Refusal>) -> &'static str

@@ -4,12 +4,14 @@
 ghost use Rattle.replay_runs.specs.Replays.{PlaysNamedBoards, RefusesFirstLines};
 ghost use Rattle.replay_runs.specs.Replays.{FailedReplayWritesAreTold, FailedReplayReadsAreTold};
 ghost use Rattle.replay_runs.specs.Replays.{ReplayOutputsAreAnswers, EarlyReplaysBeginAnswers};
-ghost use Rattle.replay_runs.specs.Replays.{EarlyReplaysAnswerAllRead};
+ghost use Rattle.replay_runs.specs.Replays.{EarlyReplaysAnswerAllRead, EarlyReplaysOfNoBoard};
+ghost use Rattle.replay_runs.specs.Replays.{AnswersFollowRuns};
 ghost use Rattle.replay_runs.specs.Replays.{SaidStepsAreAnswered, UnsaidStepsAreRefused};
 ghost use Rattle.replay_runs.specs.Replays.{PassedLinesAreSilent, ReplayReportsAreTrue};
 ghost use Rattle.replay_runs.specs.Replays.{RefusedBoardsLeaveTheRest};
 ghost use Rattle.replay_runs.specs.Replies.{StepsAreTaken};
 ghost use Rattle.replay_runs.specs.Openings.{ReplaysOpenAsSetUp};
+ghost use Rattle.replay_runs.specs.Answers.{StepCodesDiffer};
 
 use crate::board_line::Opener;
 use crate::stepping::Run;
@@ -77,6 +79,31 @@ pub fn early_replays_answer_all_read<R: Run, O: Opener<R>>(opener: &O)
     let _ = opener;
 }
 
+/// Where the board line names no board, a replay that ends early leaves nothing, or a beginning of the
+/// report of a fault of that line. Where there is no board line, it leaves nothing, and a line was
+/// lost.
+#[tactic(auto, using(crate::proofs::EarlyLemmas::early_of_none))]
+pub fn early_replays_of_no_board<R: Run, O: Opener<R>>(opener: &O)
+    ensures { EarlyReplaysOfNoBoard (O.jobs opener.now) }
+{
+    let _ = opener;
+}
+
+/// In what answers a board, a line that says a step has what this step answers in the world that the
+/// lines before it reach. The report behind the replies is of an outcome that the last world gives.
+#[tactic(auto, using(crate::proofs::EarlyLemmas::answers_follow))]
+pub fn answers_follow_runs<R: Run, O: Opener<R>>(opener: &O)
+    ensures { AnswersFollowRuns (O.jobs opener.now) }
+{
+    let _ = opener;
+}
+
+/// No two refusals have the same code. None is the word for a step that was taken, and none of these
+/// words is the one for a line that says no step.
+pub fn step_codes_differ()
+    ensures { StepCodesDiffer }
+{}
+
 /// Lines are replied to one by one, in their order. A line that says a step has what this step
 /// answers in the world that the lines before it reach, and the lines behind it go on from what the
 /// step leaves.
@@ -106,7 +133,8 @@ pub fn replay_reports_are_true<R: Run, O: Opener<R>>(opener: &O)
 
 /// A replay of a setup opens with the setup's workers, spread and limit: a step of another worker is
 /// refused, only the board's owner draws credit, and no more than the limit is granted. It searches
-/// for plans from the board to the setup's goal, and refuses no board unless memory was refused.
+/// for plans from the board to the setup's goal, guided by its tables. It refuses no board unless
+/// memory was refused.
 #[tactic(auto, using(crate::proofs::ReadLemmas::set_up))]
 pub fn replays_open_as_set_up()
     ensures { ReplaysOpenAsSetUp }

@@ -12,7 +12,7 @@ use world_model::{HaltCause, Step};
 ///
 /// The words of a line are a verb in lower case and one or two numbers of workers, or the number of
 /// one and the cause of a halt. A number has one to nine decimal digits.
-pub fn read_step(line: &[u8]) -> Option<Step>
+pub(crate) fn read_step(line: &[u8]) -> Option<Step>
     ensures { (step : Step) → (result ≡ Some step)
         ↔ (IsUtf8 line.now × SaysStep (words_of line.now) step) }
 {
