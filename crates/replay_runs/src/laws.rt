@@ -79,9 +79,9 @@ pub fn early_replays_answer_all_read<R: Run, O: Opener<R>>(opener: &O)
     let _ = opener;
 }
 
-/// Where the board line names no board, a replay that ends early leaves nothing, or a beginning of the
-/// report of a fault of that line. Where there is no board line, it leaves nothing, and a line was
-/// lost.
+/// Where the board line names no board, a replay that ends early leaves nothing, or a beginning of
+/// the report of a fault of that line. Where there is no board line, it leaves nothing, and a line
+/// was lost.
 #[tactic(auto, using(crate::proofs::EarlyLemmas::early_of_none))]
 pub fn early_replays_of_no_board<R: Run, O: Opener<R>>(opener: &O)
     ensures { EarlyReplaysOfNoBoard (O.jobs opener.now) }
@@ -89,8 +89,9 @@ pub fn early_replays_of_no_board<R: Run, O: Opener<R>>(opener: &O)
     let _ = opener;
 }
 
-/// In what answers a board, a line that says a step has what this step answers in the world that the
-/// lines before it reach. The report behind the replies is of an outcome that the last world gives.
+/// In what answers a board, a line that says a step has what this step answers in the world that
+/// the lines before it reach. The report behind the replies is of an outcome that the last world
+/// gives.
 #[tactic(auto, using(crate::proofs::EarlyLemmas::answers_follow))]
 pub fn answers_follow_runs<R: Run, O: Opener<R>>(opener: &O)
     ensures { AnswersFollowRuns (O.jobs opener.now) }
@@ -98,8 +99,8 @@ pub fn answers_follow_runs<R: Run, O: Opener<R>>(opener: &O)
     let _ = opener;
 }
 
-/// No two refusals have the same code. None is the word for a step that was taken, and none of these
-/// words is the one for a line that says no step.
+/// No two refusals have the same code. None is the word for a step that was taken, and none of
+/// these words is the one for a line that says no step.
 pub fn step_codes_differ()
     ensures { StepCodesDiffer }
 {}
