@@ -349,7 +349,8 @@ ReportsLackTheirOwn rules =
     → Replies split rules source sink (Err (certify.Memory lacking))
     → (first : HasFirst source) × ((id : List ℕ) (b : BoardModel) → Names rules.grid first.line id b → (ending : Option Ending) × (report_rules rules).allows b ending)
 
--- where the input is known and the sink was empty, a certificate that can't be written begins one of the board that the first asking line names
+-- Where the input is known and the sink was empty, a run whose certificate can't be written leaves a beginning of it. The certificate is one of
+-- the board that the board line names: the first line that isn't passed over.
 abbrev pub EarlyCertificatesBegin : ProofRules → Type 0
 EarlyCertificatesBegin rules =
     (split : PartitionModel) (source : Change SourceState) (sink : Change SinkState) (input : List ℕ)
@@ -360,7 +361,7 @@ EarlyCertificatesBegin rules =
     × (lines_of input ≡ lines ++ more) × (questions 1 lines ≡ (n, line) ∷ []) × Names rules.grid line id b × (sink.after.contents ≡ Some written)
     × CertifiesTruly split (rules.task b) c (written ++ unwritten)
 
--- and a report that can't be written begins one that tells the truth of that line
+-- and one whose report can't be written leaves a beginning of a report that tells the truth of that line
 abbrev pub EarlyReportsBegin : ProofRules → Type 0
 EarlyReportsBegin rules =
     ProvesTruly rules

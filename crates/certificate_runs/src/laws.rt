@@ -180,9 +180,10 @@ pub fn certificates_are_taken_as_written()
     ensures memory { MemoryHidesNoFault }
 {}
 
-/// How a run that answers the first asking line ends. Its status tells of the output that it leaves.
-/// A certificate or a report that can't be written is begun. Memory is refused for a report only
-/// where something may be reported. No line behind the asking one is taken.
+/// How a run ends that answers the board line: the first line that isn't passed over. Its status
+/// tells of the output that it leaves. A certificate or a report that can't be written is begun.
+/// Memory is refused for a report only where something may be reported. No line behind the board
+/// line is taken.
 pub fn answers_end_as_reported<A: ProofRuled>(asked: &A)
     ensures status { AnswerStatusesTell (A.rules asked.now) }
     ensures certificates { EarlyCertificatesBegin (A.rules asked.now) }
