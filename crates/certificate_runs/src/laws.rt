@@ -1,5 +1,7 @@
 //! The laws of the definitions: each is the contract of a function that does nothing.
 
+ghost use Rattle.certificate_runs.specs.Faults.{CertifyCodesDiffer, CheckCodesDiffer};
+ghost use Rattle.certificate_runs.specs.Faults.{UpgradeCodesDiffer};
 ghost use Rattle.certificate_runs.specs.Laws.{OtherFaultsLeaveTheSink, OtherFaultsWriteNoVerdict};
 ghost use Rattle.certificate_runs.specs.Laws.{SilenceIsUnasked, LeastPlansAreCertified};
 ghost use Rattle.certificate_runs.specs.Laws.{FirstLinesAreAnswered, SilentRunsAreUnasked};
@@ -203,3 +205,11 @@ pub fn failed_lines_are_named<A: ProofRuled>(asked: &A)
 {
     let _ = asked;
 }
+
+/// No two faults of a run have the same code, except that both refusals of memory of a run that
+/// answers a line have one.
+pub fn run_codes_differ()
+    ensures certify { CertifyCodesDiffer }
+    ensures check { CheckCodesDiffer }
+    ensures upgrade { UpgradeCodesDiffer }
+{}
