@@ -1,6 +1,6 @@
 -- How a run that draws a certificate ends, what its reader may believe, and what is left by runs that end early.
 use Rattle.std.proofs.Common.{ℕ, ◌≡◌, ◌≢◌, ◌⊎◌, ◌∙◌, ◌+◌, ◌<◌, ◌^◌, List, [], ◌∷◌, ◌++◌, length, slice_get, Option, Some, None, Result, Ok, Err, true, false, refl, sym, ap, subst, inl, inr, arith, append-nil}
-use Rattle.std.specs.Prelude.{IfSome, ◌↔◌, codes}
+use Rattle.std.specs.Prelude.{IfSome, ◌↔◌, codes, IsSome}
 use Rattle.std.proofs.lemmas.List.Elements.{recursion_from_All}
 use Rattle.serde_json.specs.Data.{Data}
 use Rattle.serde_json.specs.Written.{compact_text}
@@ -8,7 +8,7 @@ use Rattle.memory.specs.declared.OutOfMemory.{OutOfMemory}
 use Rattle.board.specs.Boards.{BoardModel}
 use Rattle.board.specs.Shapes.{ShapeModel}
 use Rattle.board.specs.Weights.{WeightsModel}
-use Rattle.board.specs.Plans.{Leads}
+use Rattle.board.specs.Plans.{Leads, NothingBelow, IsLeast}
 use Rattle.board.specs.declared.moves.Move.{Move}
 use Rattle.outcomes.specs.Outcomes.{Task}
 use Rattle.byte_streams.specs.Streams.{SourceState, SinkState, Change}
@@ -29,6 +29,7 @@ use Rattle.certificate.specs.Certificates.{CertificateModel, upgraded}
 use Rattle.certificate.specs.Readings.{certificate, HasNoFault, IsFirstFormatFault}
 use Rattle.certificate.specs.Laws.{TellsOfBytes}
 use Rattle.certificate.specs.declared.certificate.Version.TheVariants.{Two}
+use Rattle.certificate.specs.declared.faults.FormatFault.{FormatFault}
 use Rattle.certificate.specs.declared.faults.FormatFault.TheVariants.{Truncated}
 use Rattle.certificate.specs.Spellings.{spelling}
 use Rattle.certificate.specs.Faults.{format_code}
@@ -58,7 +59,7 @@ use Rattle.certificate_runs.specs.Checking.{Checks, IsJudgement, IsRefusedReport
 use Rattle.certificate_runs.specs.Showing.{IsShowOutput, PutsRefusal, LacksDrawing, EndsShow, Shows}
 use Rattle.certificate_runs.specs.Upgrading.{EndsUpgrade, Upgrades}
 use Rattle.certificate_runs.specs.Headline.{CertifiesTruly, ClaimsTruly, IsMistaken, WritesVerdict, WritesShow, IsTrueShow}
-use Rattle.certificate_runs.specs.Laws.{OtherFaultsDrawNothing, OtherFaultsUpgradeNothing, EarlyVerdictsBegin, EarlyUpgradesBegin, EarlyDrawingsBegin, DrawingsLackTheirOwn, ReportsLackTheirOwn, EarlyCertificatesBegin, EarlyReportsBegin, StatusTellsOutput, AnswerStatusesTell, VerdictStatusesTell, FailedCertificatesAreTold, FailedVerdictsAreTold, FailedLinesAreTold, FailedRepliesAreTold, NothingBehindIsTaken, CertificatesAreAccepted, CertificatesAreDrawn, CertificatesAreKept, CertificatesAreTakenAsWritten, MemoryHidesNoFault}
+use Rattle.certificate_runs.specs.Laws.{OtherFaultsDrawNothing, OtherFaultsUpgradeNothing, EarlyVerdictsBegin, EarlyUpgradesBegin, EarlyDrawingsBegin, DrawingsLackTheirOwn, ReportsLackTheirOwn, EarlyCertificatesBegin, EarlyReportsBegin, StatusTellsOutput, AnswerStatusesTell, VerdictStatusesTell, FailedCertificatesAreTold, FailedVerdictsAreTold, FailedLinesAreTold, FailedRepliesAreTold, NothingBehindIsTaken, CertificatesAreAccepted, ChecksAcceptWhatIsProved, ChecksRefuseForACause, CertificatesAreDrawn, CertificatesAreKept, CertificatesAreTakenAsWritten, MemoryHidesNoFault}
 use Rattle.certificate_runs.specs.declared.faults.CertifyFault.{CertifyFault}
 use Rattle.certificate_runs.specs.declared.faults.CertifyFault.TheVariants as certify
 use Rattle.certificate_runs.specs.declared.faults.CheckFault.{CheckFault}
@@ -321,6 +322,35 @@ certified_accepted split task c source sink status input certifies known (read, 
     by_read (Err (Format fault)) tells verdict = absurd (faultless input c fault certifies.read tells)
     by_read (Err Failed) tells verdict = absurd verdict
     by_read (Err (NoMemory refused)) tells verdict = absurd verdict
+
+-- what is refused has the status 5
+refused_five : (status : ℕ) (output : Output) (code : List ℕ) → status ≡ output.status → IsRefusedReport code output → status ≡ 5
+refused_five status output code told is = told ∙ ap (λ (o : Output). o.status) is
+
+-- so what has the status 0 is proved
+pub accepts_proved : ChecksAcceptWhatIsProved
+accepts_proved source sink (read, reads, (output, verdict, put, told)) = by_read read reads verdict
+  where
+    by_read : (read : Result CertificateModel ReadFault) → ReadsCertificate source read → IsVerdictOutput read output
+        → (c : CertificateModel) × (tables : BoundModel) × ReadsCertificate source (Ok c) × AreBuiltFor c tables × IsProved c tables × NothingBelow c.costs c.start c.goal c.cost × (IsSome c.plan → IsLeast c.costs c.start c.goal c.cost)
+    by_read (Ok c) reads (tables, built, inl accepted) = (c, tables, reads, built, accepted.proved, accepted.below, accepted.least)
+    by_read (Ok c) reads (tables, built, inr (refusal, first, refused)) = let five = refused_five 0 output (refusal_code refusal) told refused in absurd (omega (arith, five))
+    by_read (Err (Format fault)) reads refused = let five = refused_five 0 output (format_code fault) told refused in absurd (omega (arith, five))
+    by_read (Err Failed) reads never = absurd never
+    by_read (Err (NoMemory refused)) reads never = absurd never
+
+-- and what has another is refused for a cause
+pub refuses_for_cause : ChecksRefuseForACause
+refuses_for_cause source sink status other (read, reads, (output, verdict, put, told)) = by_read read reads verdict
+  where
+    by_read : (read : Result CertificateModel ReadFault) → ReadsCertificate source read → IsVerdictOutput read output
+        → ((fault : FormatFault) × ReadsCertificate source (Err (Format fault)))
+        ⊎ ((c : CertificateModel) × (tables : BoundModel) × (refusal : Refusal) × ReadsCertificate source (Ok c) × AreBuiltFor c tables × IsFirstRefusal c tables refusal)
+    by_read (Ok c) reads (tables, built, inl accepted) = absurd (other (told ∙ ap (λ (o : Output). o.status) accepted.written))
+    by_read (Ok c) reads (tables, built, inr (refusal, first, refused)) = inr (c, tables, refusal, reads, built, first)
+    by_read (Err (Format fault)) reads refused = inl (fault, reads)
+    by_read (Err Failed) reads never = absurd never
+    by_read (Err (NoMemory refused)) reads never = absurd never
 
 -- ---- streams that fail
 

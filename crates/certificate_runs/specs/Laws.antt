@@ -32,6 +32,7 @@ use Rattle.board.specs.Boards.{BoardModel}
 use Rattle.board.specs.Plans.{Leads, NothingBelow, IsLeast}
 use Rattle.certificate.specs.Certificates.{CertificateModel, upgraded}
 use Rattle.certificate.specs.Spellings.{spelling}
+use Rattle.certificate.specs.Sources.{ReadsCertificate}
 use Rattle.certificate.specs.Faults.{format_code}
 use Rattle.certificate.specs.declared.certificate.Version.TheVariants.{Two}
 use Rattle.certificate_check.specs.Refusals.{IsProved, ItsPlanLeads, IsFirstRefusal, refusal_code}
@@ -399,6 +400,25 @@ VerdictStatusesTell =
     → Checks source sink (Ok status)
     → (line : List ℕ) × (d : Data) × (sink.after.contents ≡ Some (line ++ 10 ∷ [])) × Reads line d
     × ((HasStatus d (codes "accepted") × (status ≡ 0)) ⊎ (HasStatus d (codes "refused") × (status ≡ 5)))
+
+-- where a check ends with the status 0, whatever the source is, a certificate was read of it that is proved with the tables of its groups; no
+-- plan costs less than it states, and a claimed plan is least
+abbrev pub ChecksAcceptWhatIsProved : Type 0
+ChecksAcceptWhatIsProved =
+    (source : Change SourceState) (sink : Change SinkState)
+    → Checks source sink (Ok 0)
+    → (c : CertificateModel) × (tables : BoundModel) × ReadsCertificate source (Ok c) × AreBuiltFor c tables × IsProved c tables
+    × NothingBelow c.costs c.start c.goal c.cost
+    × (IsSome c.plan → IsLeast c.costs c.start c.goal c.cost)
+
+-- and where it ends with another status, a fault of the bytes was read, or a certificate that is refused with the tables of its groups
+abbrev pub ChecksRefuseForACause : Type 0
+ChecksRefuseForACause =
+    (source : Change SourceState) (sink : Change SinkState) (status : ℕ)
+    → status ≢ 0
+    → Checks source sink (Ok status)
+    → ((fault : FormatFault) × ReadsCertificate source (Err (Format fault)))
+    ⊎ ((c : CertificateModel) × (tables : BoundModel) × (refusal : Refusal) × ReadsCertificate source (Ok c) × AreBuiltFor c tables × IsFirstRefusal c tables refusal)
 
 -- a check accepts a certificate that says the truth of a task as a run that answers a line writes it
 abbrev pub CertificatesAreAccepted : Type 0

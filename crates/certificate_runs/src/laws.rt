@@ -29,6 +29,7 @@ ghost use Rattle.certificate_runs.specs.Laws.{EarlyVerdictsBegin, EarlyUpgradesB
 ghost use Rattle.certificate_runs.specs.Laws.{EarlyDrawingsBegin, EarlyCertificatesBegin};
 ghost use Rattle.certificate_runs.specs.Laws.{EarlyReportsBegin, AnswerStatusesTell};
 ghost use Rattle.certificate_runs.specs.Laws.{VerdictStatusesTell, CertificatesAreAccepted};
+ghost use Rattle.certificate_runs.specs.Laws.{ChecksAcceptWhatIsProved, ChecksRefuseForACause};
 ghost use Rattle.certificate_runs.specs.Laws.{CertificatesAreTakenAsWritten};
 ghost use Rattle.certificate_runs.specs.Laws.{FailedCertificatesAreTold, MemoryHidesNoFault};
 ghost use Rattle.certificate_runs.specs.Laws.{FailedVerdictsAreTold, FailedLinesAreTold};
@@ -163,11 +164,14 @@ pub fn failed_certificates_are_named()
 {}
 
 /// The line that a check leaves says that the certificate is accepted with the status 0, and that it
-/// is refused with the status 5. A check accepts what a run that answers a line writes as a
-/// certificate. Where the input is known and the sink was empty, a run that can't write leaves a
+/// is refused with the status 5. Whatever the source is, only a proved certificate has the status 0,
+/// and only a fault or a cause against it another one. A check accepts what a run that answers a line
+/// writes as a certificate. Where the input is known and the sink was empty, a run that can't write leaves a
 /// beginning of a true verdict, of the spelling in version 2, or of the drawing.
 pub fn checks_end_as_reported()
     ensures statuses { VerdictStatusesTell }
+    ensures proved { ChecksAcceptWhatIsProved }
+    ensures refused { ChecksRefuseForACause }
     ensures accepted { CertificatesAreAccepted }
     ensures verdicts { EarlyVerdictsBegin }
     ensures upgrades { EarlyUpgradesBegin }
