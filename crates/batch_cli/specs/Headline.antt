@@ -13,6 +13,8 @@ use Rattle.certificate.specs.Readings.{certificate}
 use Rattle.batch_runs.specs.Headline.{WritesTruth, BeginsTruth}
 use Rattle.batch_runs.specs.Setups.{SetupModel}
 use Rattle.certificate_runs.specs.Headline.{WritesAnswer, WritesVerdict, IsCertificateRefusedBy, WritesUpgrade, WritesShow}
+use Rattle.certificate_runs.specs.Checking.{claim_data}
+use Rattle.batch_runs.specs.Reports.{refused_certificate_data, report_text}
 use Rattle.drawings.specs.declared.drawing.Style.{Style}
 use Rattle.replay_runs.specs.Replays.{Jobs, WritesNothing, WritesRefusal, WritesPlay}
 use Rattle.replay_runs.specs.Openings.{setup_jobs}
@@ -33,20 +35,21 @@ abbrev pub IsTrue : ℕ → Change SourceState → Change SinkState → Type 0
 IsTrue status source sink =
     (setup : SetupModel) × IsDefaultSetup setup × BeginsTruth (rules_of setup) source sink × (status < 2 → WritesTruth (rules_of setup) source sink status)
 
--- the input is a certificate, no plan from its start to its goal costs less than it states, and where it states a plan, that leads there at
--- its cost, which is the least
-abbrev pub StatesTruth : List ℕ → Type 0
-StatesTruth input =
+-- The input is a certificate, no plan from its start to its goal costs less than it states, and where it states a plan, that leads there at
+-- its cost, which is the least. The report of this cost, or of this bound, was written.
+abbrev pub StatesTruth : Change SinkState → List ℕ → Type 0
+StatesTruth sink input =
     (c : CertificateModel)
     × (certificate input ≡ Ok (c, []))
     × NothingBelow c.costs c.start c.goal c.cost
     × IfSome c.plan (λ plan. Leads c.costs c.start plan c.goal c.cost × IsLeast c.costs c.start c.goal c.cost)
+    × Puts sink (report_text (claim_data c.plan c.cost))
 
--- a true verdict on the input was written with the status 0 or 5; with 0 it states the truth, with 5 it is refused
+-- a true verdict on the input was written with the status 0 or 5; with 0 it states the truth, with 5 it is refused, and the report says this
 pub record JudgesTruly (status : ℕ) (sink : Change SinkState) (input : List ℕ) : Type 0 where
   pub verdict : (status ≡ 0) ⊎ (status ≡ 5) → WritesVerdict sink input
-  pub accepted : status ≡ 0 → StatesTruth input
-  pub refused : status ≡ 5 → (code : List ℕ) × IsCertificateRefusedBy input code
+  pub accepted : status ≡ 0 → StatesTruth sink input
+  pub refused : status ≡ 5 → (code : List ℕ) × IsCertificateRefusedBy input code × Puts sink (report_text (refused_certificate_data code))
 
 -- with the status 0 the input is a certificate, and its spelling in version 2 was written; with 5 it is none, and nothing was written
 abbrev pub UpgradesTruly : ℕ → Change SinkState → List ℕ → Type 0
@@ -82,9 +85,9 @@ IsTrueBy words status source sink =
     ⊎ ((refusal : NoRequest) × WordsFail words refusal × (status ≡ refusal_status refusal) × IsUnused source sink)
 
 -- A run of the program with these arguments: what it did to its streams, and its exit status. `Flushed` says that the sink is flushed at the end
--- or has failed, `Untouched` that neither the source nor the sink was used.
+-- or has failed, `Untouched` that neither the source nor the sink was used. Just a run that has not begun leaves them so.
 pub record RunsProgram (words : List Text) (source : Change SourceState) (sink errors : Change SinkState) (status : ℕ) (Flushed Untouched : Type 0) : Type 0 where
-  pub ended : (ending : Ending) × Tells errors ending status × EndsBy words source sink ending × (HasNotBegun ending → Untouched)
+  pub ended : (ending : Ending) × Tells errors ending status × EndsBy words source sink ending × ((Flushed × (¬ HasNotBegun ending)) ⊎ (HasNotBegun ending × Untouched))
   pub truth : IsTrueBy words status source sink
   pub batch : words ≡ [] → (Flushed × IsTrue status source sink) ⊎ (OutOfMemory × (status ≡ 4) × Untouched)
   pub flushed : Flushed ⊎ Untouched
