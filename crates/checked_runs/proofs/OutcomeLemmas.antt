@@ -16,7 +16,7 @@ use Rattle.hda_run.specs.Jobs.{JobModel, task_in}
 use Rattle.thread_runs.specs.Solved.{IsSolved}
 use Rattle.checked_runs.specs.Certificates.{certificate_in, AreAsGood}
 use Rattle.checked_runs.specs.Checked.{IsProvedWith, IsCheckedRun, IsRefusedRun}
-use Rattle.checked_runs.specs.Laws.{BoundsAreAccepted, BoundsHaveCertificates, PlansAreAccepted, PlansHaveCertificates, TablesFoldedFromAreAsGood, CheckedRunsAreRuns, CheckedPlansAreSolved, RefusedRunsAreTheirs}
+use Rattle.checked_runs.specs.Laws.{BoundsAreAccepted, BoundsHaveCertificates, PlansAreAccepted, PlansHaveCertificates, NoPlanIsBelowAProvedOne, NoPlanIsBelowAProvedBound, TablesFoldedFromAreAsGood, CheckedRunsAreRuns, CheckedPlansAreSolved, RefusedRunsAreTheirs}
 use Rattle.checked_runs.specs.declared.faults.CheckedFault.{CheckedFault}
 use Rattle.checked_runs.specs.declared.faults.CheckedFault.TheVariants.{WorkerCount, Memory, Refused}
 use Rattle.std.specs.List.{AllByRecursion}
@@ -33,7 +33,8 @@ use Rattle.certificate_check.proofs.RowLemmas.{proved_above, folded_below}
 use Rattle.certificate_check.proofs.RefusalLemmas.{proved_has_none}
 use Rattle.board.specs.Shapes.{ShapeModel}
 use Rattle.board.specs.Weights.{WeightsModel}
-use Rattle.board.specs.Laws.{KeysAreInOrder}
+use Rattle.board.specs.Laws.{KeysAreInOrder, RowsSuffice}
+use Rattle.lower_bound.specs.Laws.{TablesAreLowerBounds}
 use Rattle.outcomes.specs.Outcomes.{Answers}
 use Rattle.pattern_index.specs.Partitions.{PartitionModel}
 use Rattle.world_model.specs.Shapes.{IsTask}
@@ -223,3 +224,13 @@ bound_certificate_is order p bound best cause rows task tables sides costs low f
   rows = rows_fit p.goal.grid rows.items answers.1.boards answers.1.low;
   rising = rise order p.goal.grid rows.items answers.1.boards answers.1.rising;
 }
+
+-- ---- What is proved with tables leaves no cheaper plan.
+
+-- where a plan is called least
+pub none_below_a_plan : RowsSuffice → TablesAreLowerBounds → NoPlanIsBelowAProvedOne
+none_below_a_plan suffice lower p tables cost plan rows start there sides proved = suffice p.rule rows.items (sum_in tables) p.start p.goal cost start proved.rows (lower p.rule p.goal tables there (sym sides) proved.fit.potentials)
+
+-- and where a bound is given
+pub none_below_a_bound : RowsSuffice → TablesAreLowerBounds → NoPlanIsBelowAProvedBound
+none_below_a_bound suffice lower p tables bound rows start there sides proved = suffice p.rule rows.items (sum_in tables) p.start p.goal bound start proved.rows (lower p.rule p.goal tables there (sym sides) proved.fit.potentials)

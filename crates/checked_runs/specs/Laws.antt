@@ -2,7 +2,7 @@
 use Rattle.std.specs.Prelude.{◌≡◌, ◌≤◌, ◌<◌, ◌^◌, ◌⊎◌, ℕ, Option, Some, None, Vec, length}
 use Rattle.std.specs.declared.alloc.Global.{Global}
 use Rattle.board.specs.declared.moves.Move.{Move}
-use Rattle.board.specs.Boards.{BoardModel}
+use Rattle.board.specs.Boards.{BoardModel, IsBoard}
 use Rattle.memory.specs.declared.OutOfMemory.{OutOfMemory}
 use Rattle.outcomes.specs.declared.outcome.Cause.{Cause}
 use Rattle.outcomes.specs.declared.outcome.Cause.TheVariants.{Memory}
@@ -12,7 +12,7 @@ use Rattle.outcomes.specs.Outcomes.{Answers}
 use Rattle.lower_bound.specs.Tables.{BoundModel, IsTables, ArePotentials, AreWhole}
 use Rattle.lower_bound.specs.Lists.{IsFoldedBound}
 use Rattle.world_model.specs.Shapes.{IsTask}
-use Rattle.board.specs.Plans.{Leads}
+use Rattle.board.specs.Plans.{Leads, NothingBelow}
 use Rattle.board.specs.Rows.{Proves}
 use Rattle.certificate.specs.declared.certificate.TheConstants.{GREATEST_BOUND}
 use Rattle.certificate.specs.declared.certificate.Version.TheVariants.{Two}
@@ -93,12 +93,46 @@ ProvedPlansAreLeast =
     → IsProvedWith p tables (Optimal cost plan rows)
     → Leads p.rule p.start plan.items p.goal cost × Proves p.rule rows.items (sum_in tables) p.start p.goal cost
 
+-- and these tables are of the problem's groups, whole, and potentials for its cost rule and its goal
+abbrev pub ProvedPlansHaveFitTables : Type 0
+ProvedPlansHaveFitTables =
+    (p : JobModel) (tables : BoundModel) (cost : ℕ) (plan : Vec Move Global) (rows : Vec (BoardModel × ℕ) Global)
+    → IsProvedWith p tables (Optimal cost plan rows)
+    → (tables.split ≡ p.tables.split) × AreWhole tables × ArePotentials p.rule p.goal tables
+
+-- so every plan that leads from the start to the goal costs at least as much, where the start is a board and the tables have the goal's sides
+abbrev pub NoPlanIsBelowAProvedOne : Type 0
+NoPlanIsBelowAProvedOne =
+    (p : JobModel) (tables : BoundModel) (cost : ℕ) (plan : Vec Move Global) (rows : Vec (BoardModel × ℕ) Global)
+    → IsBoard p.start
+    → IsTables tables
+    → tables.split.grid ≡ p.goal.grid
+    → IsProvedWith p tables (Optimal cost plan rows)
+    → NothingBelow p.rule p.start p.goal cost
+
 -- where the certificate of a bound is proved with these tables, its rows prove the bound with their sums, from the problem's start to its goal
 abbrev pub ProvedBoundsHold : Type 0
 ProvedBoundsHold =
     (p : JobModel) (tables : BoundModel) (bound : ℕ) (rows : Vec (BoardModel × ℕ) Global)
     → IsProved (bound_certificate_in p bound rows.items) tables
     → Proves p.rule rows.items (sum_in tables) p.start p.goal bound
+
+-- and these tables are of the problem's groups, whole, and potentials for its cost rule and its goal
+abbrev pub ProvedBoundsHaveFitTables : Type 0
+ProvedBoundsHaveFitTables =
+    (p : JobModel) (tables : BoundModel) (bound : ℕ) (rows : Vec (BoardModel × ℕ) Global)
+    → IsProved (bound_certificate_in p bound rows.items) tables
+    → (tables.split ≡ p.tables.split) × AreWhole tables × ArePotentials p.rule p.goal tables
+
+-- so no plan that leads from the start to the goal costs less than the bound, where the start is a board and the tables have the goal's sides
+abbrev pub NoPlanIsBelowAProvedBound : Type 0
+NoPlanIsBelowAProvedBound =
+    (p : JobModel) (tables : BoundModel) (bound : ℕ) (rows : Vec (BoardModel × ℕ) Global)
+    → IsBoard p.start
+    → IsTables tables
+    → tables.split.grid ≡ p.goal.grid
+    → IsProved (bound_certificate_in p bound rows.items) tables
+    → NothingBelow p.rule p.start p.goal bound
 
 module _ {S : Type 0} (owner_of : S → ℕ → BoardModel → ℕ) where
   -- where memory was refused for the groups of a plan's certificate, the bound is the plan's cost
