@@ -1,6 +1,5 @@
 //! A certificate in, the same in version 2 out.
 
-ghost use Rattle.std.specs.Prelude.{ ◌⊎◌};
 ghost use Rattle.byte_streams.specs.Streams.{change};
 ghost use Rattle.batch_runs.specs.Batches.{LeavesFlushed};
 ghost use Rattle.certificate_runs.specs.Upgrading.{Upgrades};

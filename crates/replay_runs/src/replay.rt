@@ -1,6 +1,5 @@
 //! Replays with the worlds of a setup.
 
-ghost use Rattle.std.specs.Prelude.{ ◌⊎◌};
 ghost use Rattle.byte_streams.specs.Streams.{change};
 ghost use Rattle.batch_runs.specs.Batches.{LeavesFlushed};
 ghost use Rattle.replay_runs.specs.Replays.{Replays};

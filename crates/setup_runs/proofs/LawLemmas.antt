@@ -1,5 +1,5 @@
 -- The bounds that a board may be answered.
-use Rattle.std.proofs.Common.{arith, ℕ, ◌≡◌, ◌<◌, ◌≤◌, ◌+◌, ◌*◌, ◌++◌, List, Option, Vec, ◌∙◌, ◌⊎◌, refl, ap, subst, inl, inr}
+use Rattle.std.proofs.Common.{Some, arith, ℕ, ◌≡◌, ◌<◌, ◌≤◌, ◌+◌, ◌*◌, ◌++◌, List, Option, Vec, ◌∙◌, ◌⊎◌, refl, ap, subst, inl, inr}
 use Rattle.std.specs.declared.alloc.Global.{Global}
 use Rattle.board.specs.declared.moves.Move.{Move}
 use Rattle.board.specs.Boards.{BoardModel}
@@ -27,7 +27,7 @@ use Rattle.outcomes.specs.Endings.{without_rows}
 use Rattle.batch_runs.specs.Setups.{SetupModel, owner_by, task_of_setup}
 use Rattle.setup_runs.specs.Ahead.{LacksMemory}
 use Rattle.thread_runs.specs.Threads.{IsFoundByThreads}
-use Rattle.setup_runs.specs.Laws.{AnswersAreOfWorlds, AnswersAreReached, RulesAreTheSetups, CertifyingRulesAreTheSetups, CertifiedOutcomesAreOfWorlds, HardBoardsAreShared, HardBoardsAreBounded, EndedAloneIsWhole, MemoryIsLacked, StatsAreOfTheSetups, job_alone, BoundsAreNeverCut, LimitsAreTheSetups, LimitsAreNearlySpent, StatsAreOfWorlds, StatsAreWithinTheLimit, FiguresAreOfBoards}
+use Rattle.setup_runs.specs.Laws.{AnswersAreOfWorlds, AnswersAreReached, IsReachedAlone, RulesAreTheSetups, CertifyingRulesAreTheSetups, CertifiedOutcomesAreOfWorlds, HardBoardsAreShared, HardBoardsAreBounded, EndedAloneIsWhole, MemoryIsLacked, StatsAreOfTheSetups, job_alone, BoundsAreNeverCut, LimitsAreTheSetups, LimitsAreNearlySpent, StatsAreOfWorlds, StatsAreWithinTheLimit, FiguresAreOfBoards}
 use Rattle.std.specs.FinMap as map
 use Rattle.std.specs.Prelude.{min, ◌^◌, ◌-◌, sum_by}
 use Rattle.board.specs.Classes.{SameClass}
@@ -63,17 +63,13 @@ answers_of_worlds setup b ending same (answers, inr (other, is)) = absurd (other
 pub answers_reached : AnswersAreReached
 answers_reached setup b ending same (answers, inl (together, run)) = by_run run.0
   where
-    -- one worker's steps lead to it within this limit
-    Reached : ℕ → Type 0
-    Reached limit = (via : Move) × (made : List (Step × Option Refusal)) × (w : WorldState) × (limit ≤ setup.limit) × IsRun (opening (record (job_alone setup b) { limit = limit }) via) made w × EndsIn w ending
+    alone : (limit : ℕ) → limit ≤ setup.limit → IsFoundAlone EndsIn owner_by (problem_within limit setup b) setup.spread ending → IsReachedAlone setup b ending
+    alone limit within (w, run, given) = record { limit = limit; via = run.via; made = run.first ++ run.last; world = w; within = within; run = run.run; ends = given }
 
-    alone : (limit : ℕ) → limit ≤ setup.limit → IsFoundAlone EndsIn owner_by (problem_within limit setup b) setup.spread ending → Reached limit
-    alone limit within (w, run, given) = (run.via, run.first ++ run.last, w, within, run.run, given)
-
-    by_run : IsFound EndsIn (λ it. it) setup b ending → IsFoundByThreads EndsIn owner_by (problem_of setup b) setup.spread setup.workers (Some ending) ⊎ ((limit : ℕ) × Reached limit)
+    by_run : IsFound EndsIn (λ it. it) setup b ending → IsFoundByThreads EndsIn owner_by (problem_of setup b) setup.spread setup.workers (Some ending) ⊎ IsReachedAlone setup b ending
     by_run (inl (inl (several, by))) = inl by
-    by_run (inl (inr (run, left))) = inr (setup.limit, alone setup.limit (omega arith) run)
-    by_run (inr (limit, found)) = inr (limit, alone limit found.within found.run)
+    by_run (inl (inr (run, left))) = inr (alone setup.limit (omega arith) run)
+    by_run (inr (limit, found)) = inr (alone limit found.within found.run)
 answers_reached setup b ending same (answers, inr (other, is)) = absurd (other same)
 
 pub rules_of_setups : RulesAreTheSetups

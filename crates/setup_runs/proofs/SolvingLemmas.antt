@@ -10,8 +10,9 @@ use Rattle.outcomes.specs.declared.outcome.Ending.TheVariants.{Unsolvable}
 use Rattle.outcomes.specs.declared.outcome.Why.TheVariants.{Parity}
 use Rattle.outcomes.specs.Endings.{without_rows, EndAnswers}
 use Rattle.hda_run.specs.Alone.{IsRunAlone, IsFoundAlone}
+use Rattle.hda_run.specs.Answered.{IsAnswered}
 use Rattle.hda_run.specs.WholeRuns.{EndsWholeRun, HasWholeRun}
-use Rattle.hda_run.specs.Jobs.{task_in}
+use Rattle.hda_run.specs.Jobs.{JobModel, task_in}
 use Rattle.hda_run.proofs.LawLemmas.{one_class}
 use Rattle.world_model.specs.Credit.{expansion_count}
 use Rattle.world_model.specs.Openings.{Job}

@@ -81,16 +81,23 @@ AnswersAreOfWorlds =
     → MayAnswer setup b (Some ending)
     → (w : WorldState) × (w.task ≡ task_of_setup setup b) × EndsIn w ending × (expansion_count w ≤ setup.limit)
 
--- Such an answer is that of all the setup's workers, in threads, or one worker's steps lead to it from the opening world, within a limit
--- that is at most the setup's.
+-- one worker's steps lead from the opening world of the board's job to a world that ends so, within a limit that is at most the setup's
+pub record IsReachedAlone (setup : SetupModel) (b : BoardModel) (ending : Ending) : Type 0 where
+  pub limit : ℕ
+  pub via : Move
+  pub made : List (Step × Option Refusal)
+  pub world : WorldState
+  pub within : limit ≤ setup.limit
+  pub run : IsRun (opening (record (job_alone setup b) { limit = limit }) via) made world
+  pub ends : EndsIn world ending
+
+-- such an answer is that of all the setup's workers, in threads, or one worker reaches it alone
 abbrev pub AnswersAreReached : Type 0
 AnswersAreReached =
     (setup : SetupModel) (b : BoardModel) (ending : Ending)
     → SameClass b setup.goal
     → MayAnswer setup b (Some ending)
-    → IsFoundByThreads EndsIn owner_by (problem_of setup b) setup.spread setup.workers (Some ending)
-    ⊎ ((limit : ℕ) × (via : Move) × (made : List (Step × Option Refusal)) × (w : WorldState) × (limit ≤ setup.limit)
-    × IsRun (opening (record (job_alone setup b) { limit = limit }) via) made w × EndsIn w ending)
+    → IsFoundByThreads EndsIn owner_by (problem_of setup b) setup.spread setup.workers (Some ending) ⊎ IsReachedAlone setup b ending
 
 -- what reports may say of boards of the goal's shape is what the setup may answer to their tasks
 abbrev pub RulesAreTheSetups : Type 0

@@ -1,7 +1,14 @@
-use Rattle.std.proofs.Common.{Ok, ap, inl, inr}
+use Rattle.std.proofs.Common.{◌⊎◌, Ok, Err, ap, inl, inr}
+use Rattle.std.specs.Prelude.{IfOk, Result}
+use Rattle.memory.specs.declared.OutOfMemory.{OutOfMemory}
 use Rattle.hda_run.specs.Jobs.{task_in}
 use Rattle.hda_run.proofs.LawLemmas.{not_apart, parity_answers, parity_differs, parity_whole}
 use Rattle.thread_runs.proofs.solving.search_by_workers.Goals as goal
+
+-- what one worker finds is an answer, where it is left to one
+left_to_one : {X : Type 0} (by_several by_one : X → Type 0) {Left : Type 0} (result : Result X OutOfMemory) → IfOk result by_one → Left → IfOk result (λ answer. by_several answer ⊎ (by_one answer × Left))
+left_to_one by_several by_one (Ok answer) found left = inr (found, left)
+left_to_one by_several by_one (Err refused) found left = found
 
 pub returns-then-are_apart : goal.returns-then-are_apart
 returns-then-are_apart g c =
@@ -19,7 +26,7 @@ returns-in-Some g c =
     let together = not_apart c.args.search.job.start c.args.search.job.goal c.are_apart.result c.are_apart.ensures c.if-are_apart.false in
     record {
       parity = parity_differs g.A.Reading.answers g.A.Reading.parity c.keep_laws.ensures.parity (task_in c.args.search.job) together (Ok c.in-Some.answer) c.in-Some.ensures.answers;
-      run = λ same. (inl c.in-Some.ensures.run);
+      run = λ same. inl c.in-Some.ensures.run;
       answers = c.in-Some.ensures.answers;
       kept = c.in-Some.ensures.kept;
     }
@@ -29,7 +36,7 @@ returns g c =
     let together = not_apart c.args.search.job.start c.args.search.job.goal c.are_apart.result c.are_apart.ensures c.if-are_apart.false in
     record {
       parity = parity_differs g.A.Reading.answers g.A.Reading.parity c.keep_laws.ensures.parity (task_in c.args.search.job) together c.search_one.result c.search_one.ensures.answers;
-      run = λ same. by_one c.search_one.result c.search_one.ensures.run;
+      run = λ same. left_to_one _ _ c.search_one.result c.search_one.ensures.run c.in_default.ensures.left;
       answers = c.search_one.ensures.answers;
       kept = c.search_one.ensures.kept;
     }
