@@ -7,13 +7,14 @@ mod searches;
 mod workers;
 mod worlds;
 
-use crate::is_refused;
+use crate::{is_refused, pairs};
+pub use runs::{End, page, report};
 use std::io::{Eprint, Print};
 use std::sync::Wait;
 use std::thread::Threads;
 
 // The names of all calls.
-static CALLS: [&str; 29] = [
+static CALLS: [&str; 32] = [
     "partition",
     "table",
     "fold",
@@ -30,6 +31,9 @@ static CALLS: [&str; 29] = [
     "cut-off",
     "batch",
     "batch-line",
+    "lines-alike",
+    "lines-harder",
+    "lines-easier",
     "write",
     "write-groups",
     "check",
@@ -53,6 +57,17 @@ fn call<R: Threads + Wait + AllocGlobal + Sync>(rt: &R, name: &str) -> Option<An
         .or(containers::call(rt.alloc(), name))
         .or(workers::call(rt.alloc(), name))
         .or(worlds::call(rt.alloc(), name))
+        .or(call_pair(rt, name))
+}
+
+// Reports the pair of lines of this name, or answers None where there is none.
+fn call_pair<R: Threads + Wait + AllocGlobal + Sync>(rt: &R, name: &str) -> Option<Answer> {
+    for pair in &pairs::ALONE {
+        if pair.name == name {
+            return Some(pairs::call(rt, pair));
+        }
+    }
+    None
 }
 
 // What is printed of an answer, or why it is wrong. Where memory is refused only after the call,
@@ -61,8 +76,11 @@ fn judge(answer: Answer, is_refused_later: bool) -> Result<&'static str, &'stati
     match answer {
         Answer::Whole if is_refused_later => Ok("whole, refused later"),
         Answer::Whole => Ok("whole"),
-        Answer::Refused if is_refused_later => Err("no memory, though none was refused"),
+        Answer::Refused | Answer::Lacks(_) if is_refused_later => {
+            Err("no memory, though none was refused")
+        }
         Answer::Refused => Ok("refused"),
+        Answer::Lacks(what) => Ok(what),
         Answer::Wrong(why) => Err(why),
     }
 }
@@ -102,6 +120,8 @@ pub enum Answer {
     Whole,
     /// No more than may be answered where memory is refused.
     Refused,
+    /// The same of a pair of lines, and what is lacking.
+    Lacks(&'static str),
     /// What may never be answered, and why.
     Wrong(&'static str),
 }

@@ -12,6 +12,7 @@
 #![tactic(auto)]
 
 mod alone;
+mod pairs;
 mod threads;
 
 use std::alloc::Global;

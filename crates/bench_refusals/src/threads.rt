@@ -3,6 +3,8 @@
 ghost use Rattle.std.specs.Prelude.{◌≡◌, IfSome};
 ghost use Rattle.lower_bound.specs.Tables.{ArePotentials};
 
+use crate::alone::Answer as PairAnswer;
+use crate::pairs;
 use board::{Board, Shape, Weights};
 use checked_runs::{CheckedFault, solve_checked};
 use hda_run::{Free, Job};
@@ -209,7 +211,7 @@ pub fn make_all<R: Print + Eprint + AllocGlobal + Threads + Wait + Sync>(rt: &R)
     for call in &CALLS {
         status = status.max(print_verdict(rt, call));
     }
-    status
+    status.max(print_pair(rt))
 }
 
 /// Makes the call of this name, prints what came of it, and answers the exit status; or None where
@@ -222,6 +224,9 @@ pub fn make<R: Print + Eprint + AllocGlobal + Threads + Wait + Sync>(
         if call.name == name {
             return Some(print_verdict(rt, call));
         }
+    }
+    if name == pairs::SHARED.name {
+        return Some(print_pair(rt));
     }
     None
 }
@@ -236,6 +241,20 @@ fn print_verdict<R: Print + Eprint + AllocGlobal + Threads + Wait + Sync>(
         Verdict::Cost => print_lawful(rt, call.name, "bounded by its cost"),
         Verdict::Refused => print_lawful(rt, call.name, "refused"),
         Verdict::Wrong(answer) => print_wrong(rt, call.name, answer),
+    }
+}
+
+// Reports the pair of lines, prints what came of it, and answers the exit status.
+fn print_pair<R: Print + Eprint + AllocGlobal + Threads + Wait + Sync>(rt: &R) -> u8 {
+    let name = pairs::SHARED.name;
+    match pairs::call(rt, &pairs::SHARED) {
+        PairAnswer::Whole => print_lawful(rt, name, "whole"),
+        PairAnswer::Refused => print_lawful(rt, name, "refused"),
+        PairAnswer::Lacks(what) => print_lawful(rt, name, what),
+        PairAnswer::Wrong(why) => {
+            let _ = eprintln!(rt; "bench_refusals: {name}: {why}");
+            1
+        }
     }
 }
 

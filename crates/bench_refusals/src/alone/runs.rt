@@ -52,17 +52,17 @@ const CUT_OFF: [u8; 36] = [
     0, 0, 0, 0, 0, 0, 0, 1, // the count of rows
 ];
 
-// A sink over memory that was taken before.
-type Page = ByteSink<Vec<u8>>;
+/// A sink over memory that was taken before.
+pub type Page = ByteSink<Vec<u8>>;
 
-// How a run ended.
+/// How a run ended.
 #[derive(Clone, Copy)]
-enum End {
-    // With this status.
+pub enum End {
+    /// With this status.
     Status(u8),
-    // Out of memory.
+    /// Out of memory.
     NoMemory,
-    // By another fault, which is wrong here.
+    /// By another fault, which is wrong here.
     Fault,
 }
 
@@ -96,8 +96,8 @@ fn guided<R: Threads + Sync>(rt: &R, alloc: Global) -> Option<Setup> {
     Some(Setup::new(alloc, goal, weights).bound(bound))
 }
 
-// A sink with room for all that is written here, so that no write takes memory.
-fn page(alloc: Global) -> Result<Page, OutOfMemory> {
+/// A sink with room for all that is written here, so that no write takes memory.
+pub fn page(alloc: Global) -> Result<Page, OutOfMemory> {
     Ok(ByteSink::new(with_capacity(alloc, 200)?))
 }
 
@@ -149,8 +149,8 @@ fn judge_report(end: End, written: &[u8]) -> Answer {
     }
 }
 
-// Reports lines on a page.
-fn report<R: Threads + Wait + AllocGlobal + Sync>(
+/// Reports lines on a page.
+pub fn report<R: Threads + Wait + AllocGlobal + Sync>(
     rt: &R,
     setup: &Setup,
     lines: &str,
